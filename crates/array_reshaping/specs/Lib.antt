@@ -42,6 +42,7 @@ pub use Rattle.array_reshaping_laws.specs.array_call_specs_Calls
 pub use Rattle.array_reshaping_laws.specs.Refusing as array_reshaping_laws_Refusing
 pub use Rattle.array_reshaping_laws.specs.stripe_list_Full
 pub use Rattle.array_reshaping_laws.specs.crash_views_Windows
+pub use Rattle.array_reshaping_laws.specs.sb_safe_updates_Frame
 pub use Rattle.array_reshaping_laws.specs.sb_safe_updates_Unused
 pub use Rattle.array_reshaping_laws.specs.reshape_window_rows_Copies
 pub use Rattle.array_reshaping_laws.specs.reshape_window_io_Finishing

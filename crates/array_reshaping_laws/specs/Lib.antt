@@ -27,6 +27,7 @@ pub use Rattle.array_specs.specs.array_call_specs_Calls
 pub use Rattle.array_specs.specs.array_call_specs_Kept
 pub use Rattle.array_specs.specs.history_invariant_laws_Reliable
 pub use Rattle.array_specs.specs.stripe_region_write_Runs
+pub use Rattle.array_specs.specs.sb_safe_updates_Frame
 pub use Rattle.array_specs.specs.sb_safe_updates_First
 pub use Rattle.array_specs.specs.sb_safe_updates_Unused
 pub use Rattle.array_specs.specs.reshape_window_steps_Zeroing

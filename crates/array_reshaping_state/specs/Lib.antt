@@ -14,6 +14,7 @@ pub use Rattle.stripe_region_resync.specs.Left as stripe_region_resync_Left
 pub use Rattle.stripe_region_resync.specs.Mends as stripe_region_resync_Resyncs
 pub use Rattle.stripe_region_resync.specs.declared.stripes.Stripe as stripe_region_resync_the_Stripe
 pub use Rattle.stripe_region_resync.specs.stripe_region_write_Runs
+pub use Rattle.stripe_region_resync.specs.sb_safe_updates_Frame
 pub use Rattle.stripe_region_resync.specs.sb_safe_updates_First
 pub use Rattle.stripe_region_resync.specs.sb_safe_updates_Unused
 pub use Rattle.reshape_progress.specs.reshape_window_rows_Copies

@@ -3,7 +3,6 @@
 ghost use Rattle.std.specs.Prelude.{◌≡◌, ◌≢◌, ◌+◌, ◌-◌, ◌*◌, ◌<◌, ◌≤◌, ℕ, Bool, length, take, None, Some, MatchOption, OnOk, OnErr, ⊤};
 ghost use Rattle.array_fixed_invariant.specs.raid_types_Sectors.{Sector};
 ghost use Rattle.array_fixed_invariant.specs.raid_types_the_Span.{Span};
-ghost use Rattle.array_fixed_invariant.specs.bank_Given.{NeverFalls};
 ghost use Rattle.array_fixed_invariant.specs.bank_Tape.{disk};
 ghost use Rattle.array_reshaping.specs.sb_specs_Reading.{is_clean, final_shape, list_length, next_window};
 ghost use Rattle.array_fixed_invariant.specs.stripe_row_Rows.{present, reading_of};
@@ -13,10 +12,8 @@ ghost use Rattle.array_fixed_invariant.specs.history_the_StepKind_TheVariants.{C
 ghost use Rattle.array_reshaping.specs.crash_views_Views.{Ledger};
 ghost use Rattle.array_reshaping.specs.crash_views_Windows.{IsCopyable};
 ghost use Rattle.array_reshaping.specs.crash_safety_laws_Safety.{HasRoomLeft, IsRisen};
-ghost use Rattle.array_reshaping.specs.crash_safety_laws_Steady.{AreUnlost, IsSafeOver, KeepsSafe, AreGoneTold, IsUncleanTold};
-ghost use Rattle.array_reshaping.specs.array_members_Placed.{IsPlaced};
-ghost use Rattle.array_fixed_invariant.specs.array_members_Moving.{Grows, IsMoved};
-ghost use Rattle.array_reshaping.specs.array_members_Rebuilding.{AreSparesFree};
+ghost use Rattle.array_reshaping.specs.crash_safety_laws_Steady.{IsSafeOver, KeepsSafe, AreGoneTold, IsUncleanTold};
+ghost use Rattle.array_fixed_invariant.specs.array_members_Moving.{IsMoved};
 ghost use Rattle.array_reshaping.specs.array_members_Lacking.{AreLostSince, AreTooMany, AreOtherRowsKept, IsOfStripe};
 ghost use Rattle.array_reshaping.specs.sb_safe_updates_Unused.{IsUnusedKept};
 ghost use Rattle.array_fixed_invariant.specs.reshape_request_Left.{stripes_in};
@@ -26,8 +23,9 @@ ghost use Rattle.array_reshaping.specs.array_call_specs_Calls.{IsCausedBy};
 ghost use Rattle.array_reshaping.specs.history_invariant_Recorded.{IsCallGoing};
 ghost use Rattle.array_reshaping.specs.array_specs_Parts.{left_in};
 ghost use Rattle.array_reshaping.specs.array_specs_Calls.{IsCalled, IsStepTaken, IsCopyDue};
+ghost use Rattle.array_reshaping.specs.sb_safe_updates_Frame.{Stands, GoesOn};
 
-use array_fixed_invariant::{Fault, Refusal, Span, Who, append_after_losses, append_entry};
+use array_fixed_invariant::{Fault, Refusal, Span, Who, append_entry, append_after_losses};
 use array_reshaping::{
     Bank, Event, Members, Moving, StepKind, Window, all_left, check_going, copy, final_in,
     newly_unassigned, stripe_to_copy, too_many, unassigned_roles,
@@ -50,10 +48,7 @@ fn copy_next<B: Bank>(
     window: &[u8],
     scratch: &mut [u8],
 ) -> Moved
-    requires slots { (B.given bank.old).slots ≤ 32 }
-    requires placed { IsPlaced (B.given bank.old) members.old }
-    requires unlost { AreUnlost members.old }
-    requires free { AreSparesFree (B.given bank.old) members.old }
+    requires stands { Stands (B.given bank.old) members.old }
     requires next { next_window members.old.newest ≡ Some span.now }
     requires more { copied < stripes_in members.old.newest span.now }
     requires wide { 512 * (span.now.hi - span.now.lo) ≤ length window.now }
@@ -61,7 +56,7 @@ fn copy_next<B: Bank>(
     ensures moved { IsMoved (B.given bank.old) members.old members.new }
     ensures since { AreLostSince members.old members.new result.roles result.spares (B.faults_of bank.old) (B.faults_of bank.new) }
     ensures refused { MatchOption result.refusal ⊤ (AreTooMany members.new) }
-    ensures grows { Grows B.tells (B.tape bank.old) (B.tape bank.new) }
+    ensures bank { GoesOn B.tells B.given B.tape B.faults_of bank.old bank.new }
     ensures clean { is_clean members.new.newest ≡ is_clean members.old.newest }
     ensures stands { result.refusal ≡ None → B.tells → (list : ℕ → Sector) → IsCopied span.now (take (512 * (span.now.hi - span.now.lo)) window.now) (tail_of members.old.newest) list
         → (row : ℕ) → IsOfStripe (final_shape members.old.newest) (next_stripe members.old span.now copied) row
@@ -75,8 +70,6 @@ fn copy_next<B: Bank>(
         → IsSafeOver world (B.given bank.old) told members.old (B.tape bank.old)
         → KeepsSafe world (B.given bank.old) told members.new (B.tape bank.old) (B.tape bank.new) }
     ensures unused { B.tells → IsUnusedKept members.old (disk (B.given bank.old).start (B.tape bank.old)) (disk (B.given bank.old).start (B.tape bank.new)) }
-    ensures given { B.given bank.new ≡ B.given bank.old }
-    ensures counts { NeverFalls (B.faults_of bank.old) (B.faults_of bank.new) }
 {
     let count = members.roles.len() as u32;
     let before = unassigned_roles(members, count);

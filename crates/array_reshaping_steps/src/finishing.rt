@@ -2,7 +2,6 @@
 
 ghost use Rattle.std.specs.Prelude.{◌≡◌, ◌≢◌, ◌+◌, ◌-◌, ◌*◌, ◌≤◌, ℕ, length, take, None, Some, MatchOption, OnOk, OnErr, ⊤};
 ghost use Rattle.array_fixed_invariant.specs.raid_types_Sectors.{Sector};
-ghost use Rattle.array_fixed_invariant.specs.bank_Given.{NeverFalls};
 ghost use Rattle.array_fixed_invariant.specs.bank_Tape.{disk};
 ghost use Rattle.array_reshaping.specs.reshape_geometry_Geometry.{stripes};
 ghost use Rattle.array_reshaping.specs.sb_specs_Reading.{Scope, is_clean, final_shape, list_length, next_window};
@@ -14,10 +13,8 @@ ghost use Rattle.array_reshaping.specs.crash_views_Regions.{ArePlaced};
 ghost use Rattle.array_reshaping.specs.crash_views_Views.{AreHeadersFit, Ledger};
 ghost use Rattle.array_reshaping.specs.crash_views_Windows.{HasNoSection, moved_past};
 ghost use Rattle.array_reshaping.specs.crash_safety_laws_Safety.{HasRoomLeft, IsRisen};
-ghost use Rattle.array_reshaping.specs.crash_safety_laws_Steady.{AreUnlost, IsSafeOver, KeepsSafe, AreGoneTold, IsUncleanTold};
-ghost use Rattle.array_reshaping.specs.array_members_Placed.{IsPlaced};
-ghost use Rattle.array_fixed_invariant.specs.array_members_Moving.{Grows, IsMoved};
-ghost use Rattle.array_reshaping.specs.array_members_Rebuilding.{AreSparesFree};
+ghost use Rattle.array_reshaping.specs.crash_safety_laws_Steady.{IsSafeOver, KeepsSafe, AreGoneTold, IsUncleanTold};
+ghost use Rattle.array_fixed_invariant.specs.array_members_Moving.{IsMoved};
 ghost use Rattle.array_reshaping.specs.array_members_Lacking.{HaveFailedSince, HaveRolesFailed, AreLostSince, AreTooMany, AreOtherRowsKept};
 ghost use Rattle.array_reshaping.specs.sb_safe_updates_Unused.{IsUnusedKept};
 ghost use Rattle.array_reshaping.specs.reshape_window_rows_Copies.{tail_of, IsCopied};
@@ -31,8 +28,9 @@ ghost use Rattle.array_reshaping.specs.array_reshaping_invariant_Moving.{IsWindo
 ghost use Rattle.array_reshaping.specs.array_reshaping_state_Due.{open_in};
 ghost use Rattle.array_reshaping.specs.array_specs_Calls.{moving_world, IsCalled, IsStepTaken};
 ghost use Rattle.array_reshaping.specs.array_reshaping_laws_Writing.{IsWindowOpen, steps_in};
+ghost use Rattle.array_reshaping.specs.sb_safe_updates_Frame.{Stands, GoesOn};
 
-use array_fixed_invariant::{Fault, Refusal, Span, Who, append_after_losses, append_entry};
+use array_fixed_invariant::{Fault, Refusal, Span, Who, append_entry, append_after_losses};
 use array_reshaping::{
     Bank, Course, Event, Members, Moving, StepKind, Window, all_left, check_going, final_in,
     finish_window, newly_unassigned, too_many, unassigned_roles,
@@ -56,10 +54,7 @@ fn finish_rest<B: Bank>(
     window: &[u8],
     scratch: &mut [u8],
 ) -> Rest
-    requires slots { (B.given bank.old).slots ≤ 32 }
-    requires placed { IsPlaced (B.given bank.old) members.old }
-    requires unlost { AreUnlost members.old }
-    requires free { AreSparesFree (B.given bank.old) members.old }
+    requires stands { Stands (B.given bank.old) members.old }
     requires next { next_window members.old.newest ≡ Some span.now }
     requires from { from ≤ stripes (final_shape members.old.newest) span.now.lo span.now.hi }
     requires wide { 512 * (span.now.hi - span.now.lo) ≤ length window.now }
@@ -68,7 +63,7 @@ fn finish_rest<B: Bank>(
     ensures since { AreLostSince members.old members.new result.roles result.spares (B.faults_of bank.old) (B.faults_of bank.new) }
     ensures failed { HaveFailedSince members.old members.new result.spares (B.faults_of bank.old) (B.faults_of bank.new) }
     ensures refused { MatchOption result.refusal ⊤ (AreTooMany members.new) }
-    ensures grows { Grows B.tells (B.tape bank.old) (B.tape bank.new) }
+    ensures bank { GoesOn B.tells B.given B.tape B.faults_of bank.old bank.new }
     ensures clean { is_clean members.new.newest ≡ is_clean members.old.newest }
     ensures all { result.refusal ≡ None → result.copied ≡ stripes (final_shape members.old.newest) span.now.lo span.now.hi }
     ensures stands { B.tells → (list : ℕ → Sector) → IsCopied span.now (take (512 * (span.now.hi - span.now.lo)) window.now) (tail_of members.old.newest) list
@@ -87,8 +82,6 @@ fn finish_rest<B: Bank>(
         (present (B.given bank.old) (B.tape bank.old)) (disk (B.given bank.old).start (B.tape bank.old))
         → IsSafeOver world (B.given bank.old) told members.old (B.tape bank.old)
         → KeepsSafe world (B.given bank.old) told members.new (B.tape bank.old) (B.tape bank.new) }
-    ensures given { B.given bank.new ≡ B.given bank.old }
-    ensures counts { NeverFalls (B.faults_of bank.old) (B.faults_of bank.new) }
 {
     let count = members.roles.len() as u32;
     let before = unassigned_roles(members, count);

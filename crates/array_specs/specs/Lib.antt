@@ -22,6 +22,7 @@ pub use Rattle.array_reshaping_state.specs.declared.stepping.Due.TheVariants as 
 pub use Rattle.array_reshaping_state.specs.stripe_region_write_Runs
 pub use Rattle.array_reshaping_state.specs.reshape_begin_end_Begun
 pub use Rattle.array_reshaping_state.specs.reshape_sb_updates_Beginning
+pub use Rattle.array_reshaping_state.specs.sb_safe_updates_Frame
 pub use Rattle.array_reshaping_state.specs.sb_safe_updates_First
 pub use Rattle.array_reshaping_state.specs.sb_safe_updates_Unused
 pub use Rattle.array_reshaping_state.specs.reshape_window_steps_Zeroing

@@ -8,6 +8,7 @@ pub use Rattle.reshape_sb_updates.proofs.Taken as reshape_sb_updates_Taken
 pub use Rattle.reshape_sb_updates.proofs.crash_reshape_laws_PlanPlaced
 pub use Rattle.reshape_sb_updates.proofs.crash_reshape_laws_PlanRoles
 pub use Rattle.reshape_sb_updates.proofs.crash_reshape_laws_Takeovers
+pub use Rattle.sb_safe_updates.proofs.FrameLaws as sb_safe_updates_FrameLaws
 pub use Rattle.sb_safe_updates.proofs.array_members_Fit
 pub use Rattle.sb_safe_updates.proofs.array_members_Still
 pub use Rattle.sb_safe_updates.proofs.array_members_MarkedLaws

@@ -1,5 +1,6 @@
 pub mod Begun
 pub mod Finished
+pub use Rattle.sb_safe_updates.specs.Frame as sb_safe_updates_Frame
 pub use Rattle.sb_safe_updates.specs.Named as sb_safe_updates_Named
 pub use Rattle.reshape_sb_updates.specs.crash_reshape_laws_Ends
 pub use Rattle.reshape_sb_updates.specs.crash_reshape_laws_Takeovers

@@ -1,7 +1,6 @@
 //! A reshape begins.
 
 ghost use Rattle.std.specs.Prelude.{◌≡◌, ◌≢◌, ◌⊎◌, ◌+◌, ◌<◌, ◌≤◌, ◌&&◌, ◌||◌, ◌==◌, ℕ, true, false, not, nat_lt, length, Some, None};
-ghost use Rattle.sb_safe_updates.specs.bank_Given.{NeverFalls};
 ghost use Rattle.sb_safe_updates.specs.bank_Tape.{disk};
 ghost use Rattle.sb_safe_updates.specs.raid_types_Shapes.{has_slot};
 ghost use Rattle.sb_safe_updates.specs.raid_types_Search.{count_below};
@@ -21,11 +20,12 @@ ghost use Rattle.sb_safe_updates.specs.crash_safety_laws_Changing.{IsSafeChange}
 ghost use Rattle.reshape_sb_updates.specs.crash_reshape_laws_Ends.{IsCleared, IsToldWith};
 ghost use Rattle.reshape_sb_updates.specs.Beginning.{HasBegun};
 ghost use Rattle.sb_safe_updates.specs.array_members_Placed.{IsPlaced};
-ghost use Rattle.sb_safe_updates.specs.array_members_Moving.{Grows, IsMoved};
+ghost use Rattle.sb_safe_updates.specs.array_members_Moving.{IsMoved};
 ghost use Rattle.sb_safe_updates.specs.array_members_Lacking.{HaveFailedSince};
 ghost use Rattle.sb_safe_updates.specs.array_members_Rebuilding.{AreSparesFree};
 ghost use Rattle.sb_safe_updates.specs.Named.{AreNamedMissing};
 ghost use Rattle.reshape_begin_end.specs.Begun.{begun_plan, is_idle_spare, IsBackupOf, IsUntouched, IsBegunBehind};
+ghost use Rattle.sb_safe_updates.specs.Frame.{GoesOn};
 
 use reshape_sb_updates::{begin_update, clear_section};
 use sb_safe_updates::roles::shape_in;
@@ -119,7 +119,7 @@ pub fn begin<B: Bank>(
     ensures plain { result.refusal ≡ None → B.tells → (scope : Scope) → scope.backup ≡ Some backup → scope.uuid ≡ uuid.now
         → IsCleared scope (disk (B.given bank.old).start (B.tape bank.new)) }
     ensures others { B.tells → (s k : ℕ) → k ≢ 8 → (s ≢ backup) ⊎ (k ≢ 0) → present (B.given bank.old) (B.tape bank.new) s k ≡ present (B.given bank.old) (B.tape bank.old) s k }
-    ensures grows { Grows B.tells (B.tape bank.old) (B.tape bank.new) }
+    ensures bank { GoesOn B.tells B.given B.tape B.faults_of bank.old bank.new }
     ensures rise { IsRisen B.tells members.old members.new (B.tape bank.old) (B.tape bank.new) }
     ensures kept { (why : Refusal) → result.refusal ≡ Some why → B.tells → (world : World) → (told : Ledger) → HasLiveSlot members.old
         → world.scope.backup ≡ Some backup → world.scope.uuid ≡ uuid.now → IsSafeOver world (B.given bank.old) told members.old (B.tape bank.old)
@@ -129,8 +129,6 @@ pub fn begin<B: Bank>(
         → AreGoneTold told members.old → AreGoneTold more members.new → ((slot number : ℕ) → told.carried slot number ≡ true → more.carried slot number ≡ true)
         → IsSafeOver world (B.given bank.old) told members.old (B.tape bank.old)
         → IsSafeChange (OpensFit world) world.scope (B.given bank.old) told more members.new (B.tape bank.old) (B.tape bank.new) }
-    ensures counts { NeverFalls (B.faults_of bank.old) (B.faults_of bank.new) }
-    ensures given { B.given bank.new ≡ B.given bank.old }
 {
     check_counts(members);
     match clear_section(bank, backup, uuid) {

@@ -1,7 +1,6 @@
 //! A reshape ends.
 
 ghost use Rattle.std.specs.Prelude.{◌≡◌, ◌≤◌, ℕ, true, length, Some, None, MatchOption};
-ghost use Rattle.sb_safe_updates.specs.bank_Given.{NeverFalls};
 ghost use Rattle.sb_safe_updates.specs.bank_Tape.{disk};
 ghost use Rattle.sb_safe_updates.specs.raid_types_Sectors.{Sector};
 ghost use Rattle.sb_safe_updates.specs.raid_types_Shapes.{has_slot};
@@ -18,12 +17,13 @@ ghost use Rattle.sb_safe_updates.specs.crash_safety_laws_Changing.{IsSafeChange}
 ghost use Rattle.sb_safe_updates.specs.crash_safety_laws_Updates.{IsAtEnd};
 ghost use Rattle.reshape_sb_updates.specs.crash_reshape_laws_Plans.{HasNoneRecovering};
 ghost use Rattle.sb_safe_updates.specs.array_members_Placed.{IsPlaced};
-ghost use Rattle.sb_safe_updates.specs.array_members_Moving.{Grows, IsMoved};
+ghost use Rattle.sb_safe_updates.specs.array_members_Moving.{IsMoved};
 ghost use Rattle.sb_safe_updates.specs.array_members_Lacking.{AreTooMany, AreHoldersFlushed};
 ghost use Rattle.sb_safe_updates.specs.array_members_Rebuilding.{AreSparesFree};
 ghost use Rattle.sb_safe_updates.specs.Named.{AreNamedMissing};
 ghost use Rattle.sb_safe_updates.specs.Unused.{IsUnusedKept};
 ghost use Rattle.reshape_begin_end.specs.Finished.{IsOver, IsEndedBehind, AreLostInEnd, IsFinishable};
+ghost use Rattle.sb_safe_updates.specs.Frame.{Stands, GoesOn};
 
 use crate::beginning::{check_counts, check_entries};
 use reshape_sb_updates::end_update;
@@ -56,10 +56,7 @@ fn count_roles(members: &Members) -> u32
 /// recovering. Refused `TooManyMissing` where a shape in force misses more than it tolerates once they are flushed and named; then
 /// the reshape goes on.
 pub fn finish<B: Bank>(members: &mut Members, bank: &mut B) -> Finished
-    requires slots { (B.given bank.old).slots ≤ 32 }
-    requires placed { IsPlaced (B.given bank.old) members.old }
-    requires unlost { AreUnlost members.old }
-    requires free { AreSparesFree (B.given bank.old) members.old }
+    requires stands { Stands (B.given bank.old) members.old }
     requires active { is_reshaping members.old.newest ≡ true }
     requires last { IsAtEnd members.old.newest }
     requires whole { HasNoneRecovering members.old }
@@ -76,7 +73,7 @@ pub fn finish<B: Bank>(members: &mut Members, bank: &mut B) -> Finished
     ensures flushed { B.tells → AreHoldersFlushed (reading_of members.new) (B.given bank.old) (B.tape bank.new) }
     ensures others { B.tells → AreOthersPresent (present (B.given bank.old) (B.tape bank.old)) (present (B.given bank.old) (B.tape bank.new)) }
     ensures named { HasLiveSlot members.new → AreNamedMissing members.new }
-    ensures grows { Grows B.tells (B.tape bank.old) (B.tape bank.new) }
+    ensures bank { GoesOn B.tells B.given B.tape B.faults_of bank.old bank.new }
     ensures rise { IsRisen B.tells members.old members.new (B.tape bank.old) (B.tape bank.new) }
     ensures failed { AreLostInEnd members.old members.new result.roles result.spares result.lost (B.faults_of bank.old) (B.faults_of bank.new) }
     ensures kept { (why : Refusal) → result.refusal ≡ Some why → B.tells → (world : World) → (told : Ledger) → HasRoomLeft members.old (B.tape bank.old) (B.tape bank.new)
@@ -88,8 +85,6 @@ pub fn finish<B: Bank>(members: &mut Members, bank: &mut B) -> Finished
         → IsUncleanTold told members.old → IsUncleanTold more members.old → ((slot number : ℕ) → told.carried slot number ≡ true → more.carried slot number ≡ true)
         → IsSafeOver world (B.given bank.old) told members.old (B.tape bank.old)
         → IsSafeChange (OpensFit world) world.scope (B.given bank.old) told more members.new (B.tape bank.old) (B.tape bank.new) }
-    ensures counts { NeverFalls (B.faults_of bank.old) (B.faults_of bank.new) }
-    ensures given { B.given bank.new ≡ B.given bank.old }
 {
     let count = count_roles(members);
     let before = unassigned_roles(members, count);

@@ -17,6 +17,7 @@ pub use Rattle.reshape_window_steps.proofs.reshape_sb_updates_BegunPlan
 pub use Rattle.reshape_window_steps.proofs.reshape_sb_updates_EndedPlan
 pub use Rattle.reshape_window_steps.proofs.reshape_sb_updates_NewRoles
 pub use Rattle.reshape_window_steps.proofs.reshape_sb_updates_Taken
+pub use Rattle.reshape_window_steps.proofs.sb_safe_updates_FrameLaws
 pub use Rattle.reshape_window_steps.proofs.sb_safe_updates_Under
 pub use Rattle.reshape_window_steps.proofs.sb_safe_updates_Unused
 pub use Rattle.reshape_window_steps.proofs.array_members_LackingLists

@@ -6,6 +6,7 @@ pub use Rattle.reshape_window_steps.specs.reshape_begin_end_Begun
 pub use Rattle.reshape_window_steps.specs.reshape_begin_end_Finished
 pub use Rattle.reshape_window_steps.specs.reshape_sb_updates_Beginning
 pub use Rattle.reshape_window_steps.specs.reshape_sb_updates_Ending
+pub use Rattle.reshape_window_steps.specs.sb_safe_updates_Frame
 pub use Rattle.reshape_window_steps.specs.sb_safe_updates_First
 pub use Rattle.reshape_window_steps.specs.sb_safe_updates_Named
 pub use Rattle.reshape_window_steps.specs.sb_safe_updates_Unused

@@ -1,7 +1,6 @@
 //! A level is taken over: 5 to 6, or 6 to 5.
 
 ghost use Rattle.std.specs.Prelude.{◌≡◌, ◌⊎◌, ◌<◌, ◌≤◌, ◌^◌, ℕ, true, false, length, Some, IsTrue};
-ghost use Rattle.reshape_begin_end.specs.bank_Given.{NeverFalls};
 ghost use Rattle.reshape_begin_end.specs.raid_types_Shapes.{has_slot, is_valid_shape};
 ghost use Rattle.reshape_begin_end.specs.sb_specs_Reading.{is_reshaping, role_state, holder};
 ghost use Rattle.reshape_begin_end.specs.sb_specs_Reads.{has_spare};
@@ -12,16 +11,16 @@ ghost use Rattle.reshape_begin_end.specs.history_Sound.{OpensFit};
 ghost use Rattle.reshape_begin_end.specs.crash_views_Views.{Ledger};
 ghost use Rattle.reshape_begin_end.specs.crash_safety_laws_Safety.{HasLiveSlot, HasRoomLeft, IsRisen};
 ghost use Rattle.reshape_begin_end.specs.crash_safety_laws_Marking.{AreOthersPresent};
-ghost use Rattle.reshape_begin_end.specs.crash_safety_laws_Steady.{AreUnlost, IsSafeOver, AreGoneTold};
+ghost use Rattle.reshape_begin_end.specs.crash_safety_laws_Steady.{IsSafeOver, AreGoneTold};
 ghost use Rattle.reshape_begin_end.specs.crash_safety_laws_Changing.{IsChanged, IsSafeChange};
 ghost use Rattle.reshape_begin_end.specs.crash_reshape_laws_Ends.{IsToldWith};
 ghost use Rattle.reshape_begin_end.specs.crash_reshape_laws_Takeovers.{IsTakenUp, IsTakenDown};
-ghost use Rattle.reshape_begin_end.specs.array_members_Placed.{IsPlaced};
-ghost use Rattle.reshape_begin_end.specs.array_members_Moving.{Grows, IsMoved};
+ghost use Rattle.reshape_begin_end.specs.array_members_Moving.{IsMoved};
 ghost use Rattle.reshape_begin_end.specs.array_members_Lacking.{HaveFailedSince};
 ghost use Rattle.reshape_begin_end.specs.array_members_Rebuilding.{AreSparesFree};
 ghost use Rattle.reshape_begin_end.specs.sb_safe_updates_Named.{AreNamedMissing};
 ghost use Rattle.reshape_sb_takeover.specs.TakingOver.{with_level, IsTakenTo, CanTakeOver, level_give, taking_over, taken_plan};
+ghost use Rattle.reshape_begin_end.specs.sb_safe_updates_Frame.{Stands, GoesOn};
 
 use reshape_begin_end::{Bank, Change, Give, Members, Sb, Shape, holders, update, with, without};
 
@@ -100,10 +99,7 @@ fn check_entries(newest: &Sb)
 /// spare, which gets the new last role, Q, and has no row of it yet. From 6 to 5 the slot holds the last role, and becomes a spare.
 /// All data and P stay where they are. It names the roles that no slot holds. The spares, by what was planned, that were lost in this.
 pub fn take_over<B: Bank>(members: &mut Members, bank: &mut B, to: &Shape, slot: u32) -> u32
-    requires slots { (B.given bank.old).slots ≤ 32 }
-    requires placed { IsPlaced (B.given bank.old) members.old }
-    requires unlost { AreUnlost members.old }
-    requires free { AreSparesFree (B.given bank.old) members.old }
+    requires stands { Stands (B.given bank.old) members.old }
     requires still { is_reshaping members.old.newest ≡ false }
     requires valid { IsTrue (is_valid_shape to.now) }
     requires can { CanTakeOver members.old to.now slot }
@@ -116,14 +112,12 @@ pub fn take_over<B: Bank>(members: &mut Members, bank: &mut B, to: &Shape, slot:
     ensures free { AreSparesFree (B.given bank.old) members.new }
     ensures named { HasLiveSlot members.new → AreNamedMissing members.new }
     ensures others { B.tells → AreOthersPresent (present (B.given bank.old) (B.tape bank.old)) (present (B.given bank.old) (B.tape bank.new)) }
-    ensures grows { Grows B.tells (B.tape bank.old) (B.tape bank.new) }
+    ensures bank { GoesOn B.tells B.given B.tape B.faults_of bank.old bank.new }
     ensures rise { IsRisen B.tells members.old members.new (B.tape bank.old) (B.tape bank.new) }
     ensures safe { B.tells → (world : World) → (told more : Ledger) → HasRoomLeft members.old (B.tape bank.old) (B.tape bank.new)
         → IsToldWith told more (taken_plan members.old to.now slot) → AreGoneTold told members.old → AreGoneTold more members.new
         → ((slot number : ℕ) → told.carried slot number ≡ true → more.carried slot number ≡ true) → IsSafeOver world (B.given bank.old) told members.old (B.tape bank.old)
         → IsSafeChange (OpensFit world) world.scope (B.given bank.old) told more members.new (B.tape bank.old) (B.tape bank.new) }
-    ensures counts { NeverFalls (B.faults_of bank.old) (B.faults_of bank.new) }
-    ensures given { B.given bank.new ≡ B.given bank.old }
 {
     check_counts(members);
     let held = holders_then(members, to, slot);

@@ -2,7 +2,6 @@
 
 ghost use Rattle.std.specs.Prelude.{◌≡◌, ◌⊎◌, ◌-◌, ◌≤◌, ℕ, length, None, Some, MatchOption};
 ghost use Rattle.stripe_region_read.specs.raid_types_Sectors.{Sector};
-ghost use Rattle.stripe_region_read.specs.bank_Given.{NeverFalls};
 ghost use Rattle.stripe_region_read.specs.bank_Tape.{disk};
 ghost use Rattle.reshape_progress.specs.sb_specs_Reading.{is_clean, list_length, next_window, role_count};
 ghost use Rattle.reshape_progress.specs.sb_specs_Verdict.{AreValidShapes};
@@ -13,13 +12,13 @@ ghost use Rattle.reshape_progress.specs.crash_views_Views.{Ledger};
 ghost use Rattle.reshape_progress.specs.crash_views_Windows.{ListStands, RowsStand};
 ghost use Rattle.reshape_progress.specs.crash_safety_laws_Marking.{AreOthersPresent};
 ghost use Rattle.reshape_progress.specs.crash_safety_laws_Safety.{HasRoomLeft, IsRisen};
-ghost use Rattle.reshape_progress.specs.crash_safety_laws_Steady.{AreUnlost, IsSafeOver, KeepsSafe, AreGoneTold, IsUncleanTold};
-ghost use Rattle.reshape_progress.specs.array_members_Placed.{AreWhole, IsPlaced};
-ghost use Rattle.reshape_progress.specs.array_members_Moving.{Grows, IsMoved};
-ghost use Rattle.reshape_progress.specs.array_members_Rebuilding.{AreSparesFree};
+ghost use Rattle.reshape_progress.specs.crash_safety_laws_Steady.{IsSafeOver, KeepsSafe, AreGoneTold, IsUncleanTold};
+ghost use Rattle.reshape_progress.specs.array_members_Placed.{AreWhole};
+ghost use Rattle.reshape_progress.specs.array_members_Moving.{IsMoved};
 ghost use Rattle.reshape_progress.specs.array_members_Lacking.{AreLostSince, AreTooMany};
 ghost use Rattle.reshape_progress.specs.sb_safe_updates_Unused.{IsUnusedKept};
 ghost use Rattle.reshape_progress.specs.reshape_window_rows_Copies.{HasWindow, IsRoomFor};
+ghost use Rattle.reshape_progress.specs.sb_safe_updates_Frame.{Stands, GoesOn};
 
 use reshape_progress::{newly_unassigned, too_many, unassigned_roles};
 use stripe_region_read::fetching::read_list;
@@ -55,10 +54,7 @@ pub fn read_next<B: Bank>(
     scratch: &mut [u8],
     relied: u64,
 ) -> Read
-    requires slots { (B.given bank.old).slots ≤ 32 }
-    requires placed { IsPlaced (B.given bank.old) members.old }
-    requires unlost { AreUnlost members.old }
-    requires free { AreSparesFree (B.given bank.old) members.old }
+    requires stands { Stands (B.given bank.old) members.old }
     requires next { next_window members.old.newest ≡ Some span.now }
     requires room { IsRoomFor span.now window.old }
     requires scratch { 8192 ≤ length scratch.old }
@@ -66,7 +62,7 @@ pub fn read_next<B: Bank>(
     ensures moved { IsMoved (B.given bank.old) members.old members.new }
     ensures since { AreLostSince members.old members.new result.roles result.spares (B.faults_of bank.old) (B.faults_of bank.new) }
     ensures refused { MatchOption result.refusal (DoWithout members.new) (AreTooMany members.new) }
-    ensures grows { Grows B.tells (B.tape bank.old) (B.tape bank.new) }
+    ensures bank { GoesOn B.tells B.given B.tape B.faults_of bank.old bank.new }
     ensures clean { is_clean members.new.newest ≡ is_clean members.old.newest }
     ensures rise { IsRisen B.tells members.old members.new (B.tape bank.old) (B.tape bank.new) }
     ensures others { B.tells → AreOthersPresent (present (B.given bank.old) (B.tape bank.old)) (present (B.given bank.old) (B.tape bank.new)) }
@@ -76,8 +72,6 @@ pub fn read_next<B: Bank>(
     ensures safe { B.tells → (world : World) → (told : Ledger) → HasRoomLeft members.old (B.tape bank.old) (B.tape bank.new)
         → AreGoneTold told members.new → IsUncleanTold told members.old → IsSafeOver world (B.given bank.old) told members.old (B.tape bank.old)
         → KeepsSafe world (B.given bank.old) told members.new (B.tape bank.old) (B.tape bank.new) }
-    ensures given { B.given bank.new ≡ B.given bank.old }
-    ensures counts { NeverFalls (B.faults_of bank.old) (B.faults_of bank.new) }
 {
     let count = members.roles.len() as u32;
     let before = unassigned_roles(members, count);

@@ -3,7 +3,7 @@
 ghost use Rattle.std.specs.Prelude.{◌≡◌, ◌≢◌, ◌⊎◌, ◌+◌, ◌-◌, ◌*◌, ◌<◌, ◌≤◌, ℕ, true, length, take, None, Some, IsErr, MatchOption};
 ghost use Rattle.stripe_region_read.specs.raid_types_Sectors.{Sector};
 ghost use Rattle.reshape_progress.specs.raid_types_the_Refusal_TheVariants.{BackupFault};
-ghost use Rattle.stripe_region_read.specs.bank_Given.{IsFaulted, NeverFalls};
+ghost use Rattle.stripe_region_read.specs.bank_Given.{IsFaulted};
 ghost use Rattle.stripe_region_read.specs.bank_Tape.{disk};
 ghost use Rattle.reshape_progress.specs.sb_specs_the_Members.{Members};
 ghost use Rattle.reshape_progress.specs.sb_specs_Reading.{Scope, is_clean, list_length, next_window};
@@ -14,10 +14,9 @@ ghost use Rattle.reshape_progress.specs.crash_views_Views.{Ledger, AreHeadersFit
 ghost use Rattle.reshape_progress.specs.crash_views_Windows.{HasNoSection, ListStands, RowsStand};
 ghost use Rattle.reshape_progress.specs.crash_views_Backups.{IsSectionOf};
 ghost use Rattle.reshape_progress.specs.crash_safety_laws_Safety.{HasLiveSlot, HasRoomLeft, IsRisen};
-ghost use Rattle.reshape_progress.specs.crash_safety_laws_Steady.{AreUnlost, AreWritesAllowed, IsSafeOver, KeepsSafe, AreGoneTold, IsUncleanTold};
-ghost use Rattle.reshape_progress.specs.array_members_Placed.{AreWhole, IsPlaced};
-ghost use Rattle.reshape_progress.specs.array_members_Moving.{Grows, IsMoved};
-ghost use Rattle.reshape_progress.specs.array_members_Rebuilding.{AreSparesFree};
+ghost use Rattle.reshape_progress.specs.crash_safety_laws_Steady.{AreWritesAllowed, IsSafeOver, KeepsSafe, AreGoneTold, IsUncleanTold};
+ghost use Rattle.reshape_progress.specs.array_members_Placed.{AreWhole};
+ghost use Rattle.reshape_progress.specs.array_members_Moving.{IsMoved};
 ghost use Rattle.reshape_progress.specs.array_members_Lacking.{AreLostSince, AreOtherRowsKept, AreTooMany};
 ghost use Rattle.reshape_progress.specs.sb_safe_updates_Unused.{IsUnused};
 ghost use Rattle.reshape_progress.specs.reshape_window_rows_Copies.{IsRoomFor};
@@ -25,6 +24,7 @@ ghost use Rattle.reshape_progress.specs.reshape_request_the_Window_TheVariants.{
 ghost use Rattle.reshape_progress.specs.Course.{HasWindowIn, IsStored};
 ghost use Rattle.reshape_window_backup.specs.Backup.{IsBackupFor};
 ghost use Rattle.reshape_window_backup.specs.Entering.{refusal_in, window_behind};
+ghost use Rattle.reshape_progress.specs.sb_safe_updates_Frame.{Stands, GoesOn};
 
 use crate::reading::read_next;
 use crate::storing::store_window;
@@ -51,11 +51,9 @@ fn store_next<B: Bank>(
         → HasNoSection world.scope m (disk (B.given bank.old).start (B.tape bank.old)) → IsSectionOf m told.values span.now window.now
         → IsSafeOver world (B.given bank.old) told m (B.tape bank.old) → KeepsSafe world (B.given bank.old) told m (B.tape bank.old) (B.tape bank.new) }
     ensures beside { B.tells → (s k : ℕ) → s ≢ backup → disk (B.given bank.old).start (B.tape bank.new) s k ≡ disk (B.given bank.old).start (B.tape bank.old) s k }
-    ensures grows { Grows B.tells (B.tape bank.old) (B.tape bank.new) }
+    ensures bank { GoesOn B.tells B.given B.tape B.faults_of bank.old bank.new }
     ensures sectioned { IsErr result → sectioned ≡ true }
     ensures failed { IsErr result → IsFaulted backup (B.faults_of bank.old) (B.faults_of bank.new) }
-    ensures given { B.given bank.new ≡ B.given bank.old }
-    ensures counts { NeverFalls (B.faults_of bank.old) (B.faults_of bank.new) }
 {
     if !sectioned {
         return Ok(());
@@ -111,10 +109,7 @@ pub fn enter_next<B: Bank>(
     scratch: &mut [u8],
     relied: u64,
 ) -> Tried
-    requires slots { (B.given bank.old).slots ≤ 32 }
-    requires placed { IsPlaced (B.given bank.old) members.old }
-    requires unlost { AreUnlost members.old }
-    requires free { AreSparesFree (B.given bank.old) members.old }
+    requires stands { Stands (B.given bank.old) members.old }
     requires next { next_window members.old.newest ≡ Some span.now }
     requires slot { backup < (B.given bank.old).slots }
     requires within { 8 + (span.now.hi - span.now.lo) ≤ (B.given bank.old).sectors backup }
@@ -129,7 +124,7 @@ pub fn enter_next<B: Bank>(
     ensures window { MatchOption result.refusal (result.window ≡ IsEnteredWindow span.now 0 sectioned)
         (λ refusal. (result.window ≡ NoWindow) ⊎ ((result.window ≡ IsUnsureWindow span.now) × (sectioned ≡ true))) }
     ensures dead { (unsure : Span) → result.window ≡ IsUnsureWindow unsure → 0 < B.faults_of bank.new backup }
-    ensures grows { Grows B.tells (B.tape bank.old) (B.tape bank.new) }
+    ensures bank { GoesOn B.tells B.given B.tape B.faults_of bank.old bank.new }
     ensures clean { is_clean members.new.newest ≡ is_clean members.old.newest }
     ensures rise { IsRisen B.tells members.old members.new (B.tape bank.old) (B.tape bank.new) }
     ensures kept { B.tells → AreOtherRowsKept (λ row. ⊥) (reading_of members.new) (present (B.given bank.old) (B.tape bank.old)) (present (B.given bank.old) (B.tape bank.new)) }
@@ -146,8 +141,6 @@ pub fn enter_next<B: Bank>(
         → AreWhole members.new ⊎ RowsStand None members.old (present (B.given bank.old) (B.tape bank.old)) list
         → AreWritesAllowed members.old told.values list → IsSafeOver world (B.given bank.old) told members.old (B.tape bank.old)
         → KeepsSafe world (B.given bank.old) told members.new (B.tape bank.old) (B.tape bank.new) }
-    ensures given { B.given bank.new ≡ B.given bank.old }
-    ensures counts { NeverFalls (B.faults_of bank.old) (B.faults_of bank.new) }
 {
     let width = 512 * (span.hi - span.lo) as usize;
     let (part, _) = window.split_at_mut(width);

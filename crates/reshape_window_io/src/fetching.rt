@@ -2,7 +2,6 @@
 
 ghost use Rattle.std.specs.Prelude.{◌≡◌, ◌⊎◌, ◌+◌, ◌-◌, ◌*◌, ◌/◌, ◌<◌, ◌≤◌, ℕ, false, length, None, Some, MatchOption, IfSome, ⊤};
 ghost use Rattle.stripe_region_read.specs.bank_Given.{NeverFalls};
-ghost use Rattle.stripe_region_read.specs.bank_Tape.{disk};
 ghost use Rattle.stripe_region_read.specs.raid_types_Sectors.{Sector, IsWhole};
 ghost use Rattle.stripe_region_read.specs.raid_parity_Rows.{sector_of};
 ghost use Rattle.stripe_region_read.specs.sb_specs_Reading.{is_clean, list_length};
@@ -12,15 +11,14 @@ ghost use Rattle.reshape_window_steps.specs.history_World.{World};
 ghost use Rattle.reshape_window_steps.specs.crash_views_Views.{Ledger};
 ghost use Rattle.reshape_window_steps.specs.crash_safety_laws_Steady.{AreUnlost, IsSafeOver, KeepsSafe, AreGoneTold, IsUncleanTold};
 ghost use Rattle.reshape_window_steps.specs.crash_safety_laws_Marking.{AreOthersPresent};
-ghost use Rattle.reshape_window_steps.specs.crash_safety_laws_Safety.{HasRoomLeft, IsRisen};
-ghost use Rattle.reshape_window_steps.specs.sb_safe_updates_Unused.{IsUnusedKept};
+ghost use Rattle.reshape_window_steps.specs.crash_safety_laws_Safety.{HasRoomLeft};
 ghost use Rattle.reshape_window_steps.specs.array_members_Placed.{AreWhole, IsPlaced};
-ghost use Rattle.reshape_window_steps.specs.array_members_Rebuilding.{AreSparesFree};
-ghost use Rattle.reshape_window_steps.specs.array_members_Moving.{Grows, IsMoved};
+ghost use Rattle.reshape_window_steps.specs.array_members_Moving.{IsMoved};
 ghost use Rattle.reshape_window_steps.specs.array_members_Lacking.{HaveFailedSince};
 ghost use Rattle.reshape_window_steps.specs.reshape_window_rows_Copies.{HasWindow, IsRoomFor};
 ghost use Rattle.stripe_region_read.specs.Stretches.{ListStandsIn, RowsStandIn};
 ghost use Rattle.reshape_window_io.specs.Fetching.{IsShapeBeside, IsUnreadBeside};
+ghost use Rattle.reshape_window_steps.specs.sb_safe_updates_Frame.{Stands, Keeps};
 
 use reshape_window_steps::record_missing;
 use stripe_region_read::fetching::{read_list, read_regions};
@@ -119,20 +117,14 @@ fn read_around_open<B: Bank>(
     scratch: &mut [u8],
     relied: u64,
 ) -> Fetched
-    requires slots { (B.given bank.old).slots ≤ 32 }
-    requires placed { IsPlaced (B.given bank.old) members.old }
-    requires unlost { AreUnlost members.old }
-    requires free { AreSparesFree (B.given bank.old) members.old }
+    requires stands { Stands (B.given bank.old) members.old }
     requires buffer { IsRoomFor span.now buffer.now }
     requires into { IsWhole into.old }
     requires within { first + length into.old / 512 ≤ list_length members.old.newest }
     requires scratch { 8192 ≤ length scratch.old }
-    ensures moved { IsMoved (B.given bank.old) members.old members.new }
-    ensures failed { HaveFailedSince members.old members.new result.spares (B.faults_of bank.old) (B.faults_of bank.new) }
+    ensures keeps { Keeps B.tells B.given B.tape B.faults_of bank.old bank.new members.old members.new result.spares }
     ensures refused { MatchOption result.refusal ⊤ (IsUnreadBeside (Some span.now) relied first (first + length into.old / 512) members.new) }
-    ensures grows { Grows B.tells (B.tape bank.old) (B.tape bank.new) }
     ensures others { B.tells → AreOthersPresent (present (B.given bank.old) (B.tape bank.old)) (present (B.given bank.old) (B.tape bank.new)) }
-    ensures unused { B.tells → IsUnusedKept members.old (disk (B.given bank.old).start (B.tape bank.old)) (disk (B.given bank.old).start (B.tape bank.new)) }
     ensures holds { result.refusal ≡ None → B.tells → (list : ℕ → Sector) → ListStandsIn (IsShapeBeside (Some span.now) members.old.newest first (first + length into.old / 512)) (Some span.now) members.old (present (B.given bank.old) (B.tape bank.old)) list
         → HasWindow span.now buffer.now list
         → AreWhole members.new ⊎ RowsStandIn (IsShapeBeside (Some span.now) members.old.newest first (first + length into.old / 512)) (Some span.now) relied members.old (present (B.given bank.old) (B.tape bank.old)) list
@@ -140,12 +132,9 @@ fn read_around_open<B: Bank>(
     ensures clean { is_clean members.new.newest ≡ is_clean members.old.newest }
     ensures kept { AreWhole members.new → members.new ≡ members.old }
     ensures tape { AreWhole members.new → B.tells → B.tape bank.new ≡ B.tape bank.old }
-    ensures rise { IsRisen B.tells members.old members.new (B.tape bank.old) (B.tape bank.new) }
     ensures safe { B.tells → (world : World) → (told : Ledger) → HasRoomLeft members.old (B.tape bank.old) (B.tape bank.new)
         → AreGoneTold told members.new → IsUncleanTold told members.old → IsSafeOver world (B.given bank.old) told members.old (B.tape bank.old)
         → KeepsSafe world (B.given bank.old) told members.new (B.tape bank.old) (B.tape bank.new) }
-    ensures given { B.given bank.new ≡ B.given bank.old }
-    ensures counts { NeverFalls (B.faults_of bank.old) (B.faults_of bank.new) }
 {
     let refusal = read_beside(members, bank, span, buffer, first, into, scratch, relied);
     if refusal.is_some() {
@@ -171,20 +160,14 @@ pub fn read_around_window<B: Bank>(
     scratch: &mut [u8],
     relied: u64,
 ) -> Fetched
-    requires slots { (B.given bank.old).slots ≤ 32 }
-    requires placed { IsPlaced (B.given bank.old) members.old }
-    requires unlost { AreUnlost members.old }
-    requires free { AreSparesFree (B.given bank.old) members.old }
+    requires stands { Stands (B.given bank.old) members.old }
     requires buffer { IfSome hidden (λ span. IsRoomFor span buffer.now) }
     requires into { IsWhole into.old }
     requires within { first + length into.old / 512 ≤ list_length members.old.newest }
     requires scratch { 8192 ≤ length scratch.old }
-    ensures moved { IsMoved (B.given bank.old) members.old members.new }
-    ensures failed { HaveFailedSince members.old members.new result.spares (B.faults_of bank.old) (B.faults_of bank.new) }
+    ensures keeps { Keeps B.tells B.given B.tape B.faults_of bank.old bank.new members.old members.new result.spares }
     ensures refused { MatchOption result.refusal ⊤ (IsUnreadBeside hidden relied first (first + length into.old / 512) members.new) }
-    ensures grows { Grows B.tells (B.tape bank.old) (B.tape bank.new) }
     ensures others { B.tells → AreOthersPresent (present (B.given bank.old) (B.tape bank.old)) (present (B.given bank.old) (B.tape bank.new)) }
-    ensures unused { B.tells → IsUnusedKept members.old (disk (B.given bank.old).start (B.tape bank.old)) (disk (B.given bank.old).start (B.tape bank.new)) }
     ensures holds { result.refusal ≡ None → B.tells → (list : ℕ → Sector) → ListStandsIn (IsShapeBeside hidden members.old.newest first (first + length into.old / 512)) hidden members.old (present (B.given bank.old) (B.tape bank.old)) list
         → IfSome hidden (λ span. HasWindow span buffer.now list)
         → AreWhole members.new ⊎ RowsStandIn (IsShapeBeside hidden members.old.newest first (first + length into.old / 512)) hidden relied members.old (present (B.given bank.old) (B.tape bank.old)) list
@@ -192,12 +175,9 @@ pub fn read_around_window<B: Bank>(
     ensures clean { is_clean members.new.newest ≡ is_clean members.old.newest }
     ensures kept { AreWhole members.new → members.new ≡ members.old }
     ensures tape { AreWhole members.new → B.tells → B.tape bank.new ≡ B.tape bank.old }
-    ensures rise { IsRisen B.tells members.old members.new (B.tape bank.old) (B.tape bank.new) }
     ensures safe { B.tells → (world : World) → (told : Ledger) → HasRoomLeft members.old (B.tape bank.old) (B.tape bank.new)
         → AreGoneTold told members.new → IsUncleanTold told members.old → IsSafeOver world (B.given bank.old) told members.old (B.tape bank.old)
         → KeepsSafe world (B.given bank.old) told members.new (B.tape bank.old) (B.tape bank.new) }
-    ensures given { B.given bank.new ≡ B.given bank.old }
-    ensures counts { NeverFalls (B.faults_of bank.old) (B.faults_of bank.new) }
 {
     match hidden {
         None => read_list(members, bank, first, into, scratch, relied),

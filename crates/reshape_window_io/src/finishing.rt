@@ -1,7 +1,6 @@
 //! An open window is finished: what is left of it is copied, and it is recorded.
 
 ghost use Rattle.std.specs.Prelude.{◌≡◌, ◌≤◌, ℕ, true, length, None, Some, MatchOption, ⊤};
-ghost use Rattle.stripe_region_read.specs.bank_Given.{NeverFalls};
 ghost use Rattle.stripe_region_read.specs.bank_Tape.{disk};
 ghost use Rattle.stripe_region_read.specs.raid_types_Sectors.{Sector};
 ghost use Rattle.stripe_region_read.specs.reshape_geometry_Geometry.{stripes};
@@ -13,17 +12,16 @@ ghost use Rattle.reshape_window_steps.specs.crash_views_Regions.{ArePlaced, DoWi
 ghost use Rattle.reshape_window_steps.specs.crash_views_Views.{AreHeadersFit, Ledger};
 ghost use Rattle.reshape_window_steps.specs.crash_views_Windows.{IsCopyable, HasNoSection, ListStands, RowsStand, moved_past};
 ghost use Rattle.reshape_window_steps.specs.crash_safety_laws_Safety.{HasLiveSlot, HasRoomLeft, IsRisen};
-ghost use Rattle.reshape_window_steps.specs.crash_safety_laws_Steady.{AreUnlost, IsSafeOver, KeepsSafe, AreGoneTold, IsUncleanTold};
+ghost use Rattle.reshape_window_steps.specs.crash_safety_laws_Steady.{IsSafeOver, KeepsSafe, AreGoneTold, IsUncleanTold};
 ghost use Rattle.reshape_window_steps.specs.sb_safe_updates_Named.{AreNamedMissing};
 ghost use Rattle.reshape_window_steps.specs.sb_safe_updates_Unused.{IsUnusedKept};
-ghost use Rattle.reshape_window_steps.specs.array_members_Placed.{IsPlaced};
-ghost use Rattle.reshape_window_steps.specs.array_members_Moving.{Grows, IsMoved};
-ghost use Rattle.reshape_window_steps.specs.array_members_Rebuilding.{AreSparesFree};
+ghost use Rattle.reshape_window_steps.specs.array_members_Moving.{IsMoved};
 ghost use Rattle.reshape_window_steps.specs.array_members_Lacking.{HaveFailedSince, AreHoldersFlushed, AreTooMany, AreOtherRowsKept};
 ghost use Rattle.reshape_window_steps.specs.reshape_window_rows_Copies.{IsRoomFor, tail_of, IsCopied};
 ghost use Rattle.reshape_window_steps.specs.Copying.{AreHeadersKept};
 ghost use Rattle.reshape_window_steps.specs.Recording.{IsRecorded};
 ghost use Rattle.reshape_window_io.specs.Finishing.{IsOfRest, AreStripesCopied, IsOpenWindow};
+ghost use Rattle.reshape_window_steps.specs.sb_safe_updates_Frame.{Stands, Keeps, GoesOn};
 
 use reshape_window_steps::{copy, record};
 use stripe_region_read::{Bank, Members, Refusal, Shape, Span, stripe_sectors};
@@ -46,19 +44,14 @@ fn copy_rest<B: Bank>(
     buffer: &[u8],
     scratch: &mut [u8],
 ) -> Finished
-    requires slots { (B.given bank.old).slots ≤ 32 }
-    requires placed { IsPlaced (B.given bank.old) members.old }
-    requires unlost { AreUnlost members.old }
-    requires free { AreSparesFree (B.given bank.old) members.old }
+    requires stands { Stands (B.given bank.old) members.old }
     requires shape { shape.now ≡ final_shape members.old.newest }
     requires next { next_window members.old.newest ≡ Some span.now }
     requires from { from ≤ stripes shape.now span.now.lo span.now.hi }
     requires buffer { IsRoomFor span.now buffer.now }
     requires scratch { 8192 ≤ length scratch.old }
-    ensures moved { IsMoved (B.given bank.old) members.old members.new }
-    ensures failed { HaveFailedSince members.old members.new result.spares (B.faults_of bank.old) (B.faults_of bank.new) }
+    ensures keeps { Keeps B.tells B.given B.tape B.faults_of bank.old bank.new members.old members.new result.spares }
     ensures refused { MatchOption result.refusal ⊤ (AreTooMany members.new) }
-    ensures grows { Grows B.tells (B.tape bank.old) (B.tape bank.new) }
     ensures clean { is_clean members.new.newest ≡ is_clean members.old.newest }
     ensures reached { from ≤ result.copied }
     ensures within { result.copied ≤ stripes shape.now span.now.lo span.now.hi }
@@ -69,7 +62,6 @@ fn copy_rest<B: Bank>(
     ensures others { B.tells → AreOtherRowsKept (IsOfRest shape.now span.now from) (reading_of members.new)
         (present (B.given bank.old) (B.tape bank.old)) (present (B.given bank.old) (B.tape bank.new)) }
     ensures named { MatchOption result.refusal ⊤ (λ refusal. HasLiveSlot members.new → AreNamedMissing members.new) }
-    ensures rise { IsRisen B.tells members.old members.new (B.tape bank.old) (B.tape bank.new) }
     ensures safe { B.tells → (world : World) → (told : Ledger) → HasRoomLeft members.old (B.tape bank.old) (B.tape bank.new)
         → AreGoneTold told members.new → IsUncleanTold told members.old
         → IsCopyable world.scope members.old span.now (disk (B.given bank.old).start (B.tape bank.old))
@@ -78,9 +70,6 @@ fn copy_rest<B: Bank>(
     ensures copyable { B.tells → (world : World) → IsCopyable world.scope members.old span.now (disk (B.given bank.old).start (B.tape bank.old))
         → IsCopyable world.scope members.new span.now (disk (B.given bank.old).start (B.tape bank.new)) }
     ensures headers { B.tells → AreHeadersKept (disk (B.given bank.old).start (B.tape bank.old)) (disk (B.given bank.old).start (B.tape bank.new)) }
-    ensures unused { B.tells → IsUnusedKept members.old (disk (B.given bank.old).start (B.tape bank.old)) (disk (B.given bank.old).start (B.tape bank.new)) }
-    ensures given { B.given bank.new ≡ B.given bank.old }
-    ensures counts { NeverFalls (B.faults_of bank.old) (B.faults_of bank.new) }
 {
     let sectors = stripe_sectors(shape);
     let first = span.lo / sectors;
@@ -118,10 +107,7 @@ pub fn finish_window<B: Bank>(
     buffer: &[u8],
     scratch: &mut [u8],
 ) -> Finished
-    requires slots { (B.given bank.old).slots ≤ 32 }
-    requires placed { IsPlaced (B.given bank.old) members.old }
-    requires unlost { AreUnlost members.old }
-    requires free { AreSparesFree (B.given bank.old) members.old }
+    requires stands { Stands (B.given bank.old) members.old }
     requires shape { shape.now ≡ final_shape members.old.newest }
     requires next { next_window members.old.newest ≡ Some span.now }
     requires from { from ≤ stripes shape.now span.now.lo span.now.hi }
@@ -131,7 +117,7 @@ pub fn finish_window<B: Bank>(
     ensures recorded { result.refusal ≡ None → IsRecorded B.tells (B.given bank.old) span.now members.old members.new (B.tape bank.old) (B.tape bank.new) }
     ensures failed { HaveFailedSince members.old members.new result.spares (B.faults_of bank.old) (B.faults_of bank.new) }
     ensures refused { MatchOption result.refusal ⊤ (AreTooMany members.new) }
-    ensures grows { Grows B.tells (B.tape bank.old) (B.tape bank.new) }
+    ensures bank { GoesOn B.tells B.given B.tape B.faults_of bank.old bank.new }
     ensures clean { is_clean members.new.newest ≡ is_clean members.old.newest }
     ensures reached { from ≤ result.copied }
     ensures within { result.copied ≤ stripes shape.now span.now.lo span.now.hi }
@@ -160,8 +146,6 @@ pub fn finish_window<B: Bank>(
         → IsOpenWindow (OpensFit world) world.scope told members.old span.now buffer.now from list (present (B.given bank.old) (B.tape bank.old)) (disk (B.given bank.old).start (B.tape bank.old))
         → IsSafeOver world (B.given bank.old) told members.old (B.tape bank.old)
         → KeepsSafe world (B.given bank.old) told members.new (B.tape bank.old) (B.tape bank.new) }
-    ensures given { B.given bank.new ≡ B.given bank.old }
-    ensures counts { NeverFalls (B.faults_of bank.old) (B.faults_of bank.new) }
 {
     let copied = copy_rest(members, bank, shape, span, from, buffer, scratch);
     if copied.refusal.is_some() {

@@ -35,6 +35,7 @@ pub use Rattle.reshape_begin_end.proofs.stripe_row_RowBytes
 pub use Rattle.reshape_begin_end.proofs.stripe_row_Tables
 pub use Rattle.reshape_begin_end.proofs.stripe_row_Turns
 pub use Rattle.reshape_begin_end.proofs.stripe_row_Written
+pub use Rattle.reshape_begin_end.proofs.sb_safe_updates_FrameLaws
 pub use Rattle.reshape_begin_end.proofs.sb_safe_updates_SparesLaws
 pub use Rattle.reshape_begin_end.proofs.sb_safe_updates_Under
 pub use Rattle.reshape_begin_end.proofs.sb_safe_updates_Unused

@@ -57,6 +57,7 @@ pub use Rattle.reshape_begin_end.specs.reshape_sb_updates_Beginning
 pub use Rattle.reshape_begin_end.specs.reshape_sb_updates_Ending
 pub use Rattle.reshape_begin_end.specs.stripe_row_Rows
 pub use Rattle.reshape_begin_end.specs.stripe_row_Writes
+pub use Rattle.reshape_begin_end.specs.sb_safe_updates_Frame
 pub use Rattle.reshape_begin_end.specs.sb_safe_updates_First
 pub use Rattle.reshape_begin_end.specs.sb_safe_updates_Named
 pub use Rattle.reshape_begin_end.specs.sb_safe_updates_Unused

@@ -5,6 +5,7 @@ pub mod Copying
 pub mod Zeroing
 pub use Rattle.reshape_window_rows.specs.reshape_sb_updates_Beginning
 pub use Rattle.reshape_window_rows.specs.reshape_sb_updates_Ending
+pub use Rattle.reshape_window_rows.specs.sb_safe_updates_Frame
 pub use Rattle.reshape_window_rows.specs.sb_safe_updates_First
 pub use Rattle.reshape_window_rows.specs.sb_safe_updates_Named
 pub use Rattle.reshape_window_rows.specs.sb_safe_updates_Unused

@@ -1,7 +1,6 @@
 //! A window is recorded, behind a flush of the members.
 
-ghost use Rattle.std.specs.Prelude.{◌≡◌, ◌≤◌, ℕ, None, Some, MatchOption, ⊤};
-ghost use Rattle.reshape_window_rows.specs.bank_Given.{NeverFalls};
+ghost use Rattle.std.specs.Prelude.{◌≡◌, ℕ, None, Some, MatchOption, ⊤};
 ghost use Rattle.reshape_window_rows.specs.bank_Tape.{disk};
 ghost use Rattle.reshape_window_rows.specs.raid_types_Sectors.{Sector};
 ghost use Rattle.reshape_window_rows.specs.sb_specs_Reading.{Scope, next_window, is_clean};
@@ -13,14 +12,13 @@ ghost use Rattle.reshape_window_rows.specs.crash_views_Views.{Ledger, AreHeaders
 ghost use Rattle.reshape_window_rows.specs.crash_views_Windows.{HasNoSection, moved_past};
 ghost use Rattle.reshape_window_rows.specs.crash_safety_laws_Marking.{AreOthersPresent};
 ghost use Rattle.reshape_window_rows.specs.crash_safety_laws_Safety.{HasLiveSlot, HasRoomLeft, IsRisen};
-ghost use Rattle.reshape_window_rows.specs.crash_safety_laws_Steady.{AreUnlost, IsSteady, IsSafeOver, KeepsSafe, AreGoneTold, IsUncleanTold};
+ghost use Rattle.reshape_window_rows.specs.crash_safety_laws_Steady.{IsSteady, IsSafeOver, KeepsSafe, AreGoneTold, IsUncleanTold};
 ghost use Rattle.reshape_window_rows.specs.sb_safe_updates_Named.{AreNamedMissing};
 ghost use Rattle.reshape_window_rows.specs.sb_safe_updates_Unused.{IsUnusedKept};
-ghost use Rattle.reshape_window_rows.specs.array_members_Placed.{IsPlaced};
-ghost use Rattle.reshape_window_rows.specs.array_members_Moving.{Grows, IsMoved};
-ghost use Rattle.reshape_window_rows.specs.array_members_Rebuilding.{AreSparesFree};
+ghost use Rattle.reshape_window_rows.specs.array_members_Moving.{IsMoved};
 ghost use Rattle.reshape_window_rows.specs.array_members_Lacking.{HaveFailedSince, AreHoldersFlushed, AreTooMany};
 ghost use Rattle.reshape_window_steps.specs.Recording.{AreOthersFewer, IsCopiedWindow, IsRecorded};
+ghost use Rattle.reshape_window_rows.specs.sb_safe_updates_Frame.{Stands, GoesOn};
 
 use crate::copying::Stepped;
 use reshape_window_rows::{
@@ -29,14 +27,11 @@ use reshape_window_rows::{
 
 // Records the position behind the window. The spares that were lost in this.
 fn put_position<B: Bank>(members: &mut Members, bank: &mut B, span: &Span) -> u32
-    requires slots { (B.given bank.old).slots ≤ 32 }
-    requires placed { IsPlaced (B.given bank.old) members.old }
-    requires unlost { AreUnlost members.old }
-    requires free { AreSparesFree (B.given bank.old) members.old }
+    requires stands { Stands (B.given bank.old) members.old }
     requires next { next_window members.old.newest ≡ Some span.now }
     ensures moved { IsMoved (B.given bank.old) (moved_past span.now members.old) members.new }
     ensures failed { HaveFailedSince members.old members.new result (B.faults_of bank.old) (B.faults_of bank.new) }
-    ensures grows { Grows B.tells (B.tape bank.old) (B.tape bank.new) }
+    ensures bank { GoesOn B.tells B.given B.tape B.faults_of bank.old bank.new }
     ensures others { B.tells → AreOthersPresent (present (B.given bank.old) (B.tape bank.old)) (present (B.given bank.old) (B.tape bank.new)) }
     ensures flushed { B.tells → AreHoldersFlushed (reading_of members.old) (B.given bank.old) (B.tape bank.old) → AreHoldersFlushed (reading_of members.old) (B.given bank.old) (B.tape bank.new) }
     ensures fewer { B.tells → AreOthersFewer (disk (B.given bank.old).start (B.tape bank.old)) (disk (B.given bank.old).start (B.tape bank.new)) }
@@ -48,8 +43,6 @@ fn put_position<B: Bank>(members: &mut Members, bank: &mut B, span: &Span) -> u3
         → IsViewRight (OpensFit world) world.scope (B.given bank.old) told (moved_past span.now members.old) (disk (B.given bank.old).start (B.tape bank.old)))
         → IsSafeOver world (B.given bank.old) told members.old (B.tape bank.old)
         → KeepsSafe world (B.given bank.old) told members.new (B.tape bank.old) (B.tape bank.new) }
-    ensures given { B.given bank.new ≡ B.given bank.old }
-    ensures counts { NeverFalls (B.faults_of bank.old) (B.faults_of bank.new) }
 {
     let held = holders(members);
     let lost = record_position(members, bank, span);
@@ -58,14 +51,11 @@ fn put_position<B: Bank>(members: &mut Members, bank: &mut B, span: &Span) -> u3
 
 // Records the position behind the window, and names what was lost in this. The spares that were lost.
 fn move_position<B: Bank>(members: &mut Members, bank: &mut B, span: &Span) -> u32
-    requires slots { (B.given bank.old).slots ≤ 32 }
-    requires placed { IsPlaced (B.given bank.old) members.old }
-    requires unlost { AreUnlost members.old }
-    requires free { AreSparesFree (B.given bank.old) members.old }
+    requires stands { Stands (B.given bank.old) members.old }
     requires next { next_window members.old.newest ≡ Some span.now }
     ensures moved { IsMoved (B.given bank.old) (moved_past span.now members.old) members.new }
     ensures failed { HaveFailedSince members.old members.new result (B.faults_of bank.old) (B.faults_of bank.new) }
-    ensures grows { Grows B.tells (B.tape bank.old) (B.tape bank.new) }
+    ensures bank { GoesOn B.tells B.given B.tape B.faults_of bank.old bank.new }
     ensures others { B.tells → AreOthersPresent (present (B.given bank.old) (B.tape bank.old)) (present (B.given bank.old) (B.tape bank.new)) }
     ensures flushed { B.tells → AreHoldersFlushed (reading_of members.old) (B.given bank.old) (B.tape bank.old) → AreHoldersFlushed (reading_of members.new) (B.given bank.old) (B.tape bank.new) }
     ensures fewer { B.tells → AreOthersFewer (disk (B.given bank.old).start (B.tape bank.old)) (disk (B.given bank.old).start (B.tape bank.new)) }
@@ -79,8 +69,6 @@ fn move_position<B: Bank>(members: &mut Members, bank: &mut B, span: &Span) -> u
         → IsViewRight (OpensFit world) world.scope (B.given bank.old) told (moved_past span.now members.old) (disk (B.given bank.old).start (B.tape bank.old)))
         → IsSafeOver world (B.given bank.old) told members.old (B.tape bank.old)
         → KeepsSafe world (B.given bank.old) told members.new (B.tape bank.old) (B.tape bank.new) }
-    ensures given { B.given bank.new ≡ B.given bank.old }
-    ensures counts { NeverFalls (B.faults_of bank.old) (B.faults_of bank.new) }
 {
     let write_listed = put_position(members, bank, span);
     let named = record_missing(members, bank);
@@ -91,16 +79,13 @@ fn move_position<B: Bank>(members: &mut Members, bank: &mut B, span: &Span) -> u
 /// lost in the flush is named before the position moves, and what is lost in that, behind it. It ends before the position moves
 /// where more roles of a shape in force are missing than it tolerates.
 pub fn record<B: Bank>(members: &mut Members, bank: &mut B, span: &Span) -> Stepped
-    requires slots { (B.given bank.old).slots ≤ 32 }
-    requires placed { IsPlaced (B.given bank.old) members.old }
-    requires unlost { AreUnlost members.old }
-    requires free { AreSparesFree (B.given bank.old) members.old }
+    requires stands { Stands (B.given bank.old) members.old }
     requires next { next_window members.old.newest ≡ Some span.now }
     ensures moved { MatchOption result.refusal (IsMoved (B.given bank.old) (moved_past span.now members.old) members.new) (λ refusal. IsMoved (B.given bank.old) members.old members.new) }
     ensures recorded { result.refusal ≡ None → IsRecorded B.tells (B.given bank.old) span.now members.old members.new (B.tape bank.old) (B.tape bank.new) }
     ensures failed { HaveFailedSince members.old members.new result.spares (B.faults_of bank.old) (B.faults_of bank.new) }
     ensures refused { MatchOption result.refusal ⊤ (AreTooMany members.new) }
-    ensures grows { Grows B.tells (B.tape bank.old) (B.tape bank.new) }
+    ensures bank { GoesOn B.tells B.given B.tape B.faults_of bank.old bank.new }
     ensures others { B.tells → AreOthersPresent (present (B.given bank.old) (B.tape bank.old)) (present (B.given bank.old) (B.tape bank.new)) }
     ensures flushed { B.tells → AreHoldersFlushed (reading_of members.new) (B.given bank.old) (B.tape bank.new) }
     ensures fewer { B.tells → AreOthersFewer (disk (B.given bank.old).start (B.tape bank.old)) (disk (B.given bank.old).start (B.tape bank.new)) }
@@ -116,8 +101,6 @@ pub fn record<B: Bank>(members: &mut Members, bank: &mut B, span: &Span) -> Step
         → (result.refusal ≡ None → IsCopiedWindow (OpensFit world) world.scope told members.old span.now list (present (B.given bank.old) (B.tape bank.old)) (disk (B.given bank.old).start (B.tape bank.old)))
         → IsSafeOver world (B.given bank.old) told members.old (B.tape bank.old)
         → KeepsSafe world (B.given bank.old) told members.new (B.tape bank.old) (B.tape bank.new) }
-    ensures given { B.given bank.new ≡ B.given bank.old }
-    ensures counts { NeverFalls (B.faults_of bank.old) (B.faults_of bank.new) }
 {
     let flushed = flush_naming(members, bank);
     let refusal = too_many(members);

@@ -1,7 +1,6 @@
 //! A stripe behind the list is zeroed, and what is lost in it is named.
 
 ghost use Rattle.std.specs.Prelude.{◌≡◌, ◌<◌, ◌≤◌, ℕ, true, false, length, None, MatchOption, ⊤};
-ghost use Rattle.reshape_window_rows.specs.bank_Given.{NeverFalls};
 ghost use Rattle.reshape_window_rows.specs.bank_Tape.{disk};
 ghost use Rattle.reshape_window_rows.specs.raid_types_Sectors.{Sector};
 ghost use Rattle.reshape_window_rows.specs.sb_specs_Reading.{final_shape, list_length, is_clean};
@@ -10,17 +9,14 @@ ghost use Rattle.reshape_window_rows.specs.stripe_list_Full.{RowStands};
 ghost use Rattle.reshape_window_rows.specs.history_World.{World};
 ghost use Rattle.reshape_window_rows.specs.crash_views_Regions.{DoWithout};
 ghost use Rattle.reshape_window_rows.specs.crash_views_Views.{Ledger};
-ghost use Rattle.reshape_window_rows.specs.crash_safety_laws_Safety.{HasLiveSlot, HasRoomLeft, IsRisen};
+ghost use Rattle.reshape_window_rows.specs.crash_safety_laws_Safety.{HasLiveSlot, HasRoomLeft};
 ghost use Rattle.reshape_window_rows.specs.sb_safe_updates_Named.{AreNamedMissing};
-ghost use Rattle.reshape_window_rows.specs.sb_safe_updates_Unused.{IsUnusedKept};
-ghost use Rattle.reshape_window_rows.specs.crash_safety_laws_Steady.{AreUnlost, IsSafeOver, KeepsSafe, AreGoneTold, IsUncleanTold};
-ghost use Rattle.reshape_window_rows.specs.array_members_Placed.{IsPlaced};
-ghost use Rattle.reshape_window_rows.specs.array_members_Moving.{Grows, IsMoved};
-ghost use Rattle.reshape_window_rows.specs.array_members_Rebuilding.{AreSparesFree};
-ghost use Rattle.reshape_window_rows.specs.array_members_Lacking.{HaveFailedSince, DoesWithout, AreTooMany, AreOtherRowsKept, IsOfStripe};
+ghost use Rattle.reshape_window_rows.specs.crash_safety_laws_Steady.{IsSafeOver, KeepsSafe, AreGoneTold, IsUncleanTold};
+ghost use Rattle.reshape_window_rows.specs.array_members_Lacking.{DoesWithout, AreTooMany, AreOtherRowsKept, IsOfStripe};
 ghost use Rattle.reshape_window_rows.specs.Copies.{tail_of, IsZeroIn, IsPastStripe};
 ghost use Rattle.reshape_window_steps.specs.Copying.{AreHeadersKept, IsOfStripeFrom};
 ghost use Rattle.reshape_window_steps.specs.Zeroing.{IsThrough};
+ghost use Rattle.reshape_window_rows.specs.sb_safe_updates_Frame.{Stands, Keeps};
 
 use crate::copying::{Part, Stepped, Stretch};
 use reshape_window_rows::{Bank, Members, Shape, record_missing, too_many, zero_stripe};
@@ -34,18 +30,14 @@ fn zero_stretch<B: Bank>(
     done: u64,
     scratch: &mut [u8],
 ) -> Stretch
-    requires slots { (B.given bank.old).slots ≤ 32 }
-    requires placed { IsPlaced (B.given bank.old) members.old }
-    requires unlost { AreUnlost members.old }
+    requires stands { Stands (B.given bank.old) members.old }
     requires shape { shape.now ≡ final_shape members.old.newest }
     requires through { IsThrough members.old.newest }
     requires stripe { IsPastStripe shape.now members.old.newest.size (list_length members.old.newest) stripe }
     requires done { done < shape.now.chunk }
     requires scratch { 8192 ≤ length scratch.old }
-    ensures moved { IsMoved (B.given bank.old) members.old members.new }
-    ensures failed { HaveFailedSince members.old members.new 0 (B.faults_of bank.old) (B.faults_of bank.new) }
+    ensures keeps { Keeps B.tells B.given B.tape B.faults_of bank.old bank.new members.old members.new 0 }
     ensures refused { result.refused ≡ true → DoesWithout shape.now members.new → ⊥ }
-    ensures grows { Grows B.tells (B.tape bank.old) (B.tape bank.new) }
     ensures clean { is_clean members.new.newest ≡ is_clean members.old.newest }
     ensures further { result.refused ≡ false → done < result.done }
     ensures reached { done ≤ result.done }
@@ -56,13 +48,9 @@ fn zero_stretch<B: Bank>(
     ensures others { B.tells → AreOtherRowsKept (IsOfStripeFrom shape.now stripe done shape.now.chunk) (reading_of members.new)
         (present (B.given bank.old) (B.tape bank.old)) (present (B.given bank.old) (B.tape bank.new)) }
     ensures headers { B.tells → AreHeadersKept (disk (B.given bank.old).start (B.tape bank.old)) (disk (B.given bank.old).start (B.tape bank.new)) }
-    ensures unused { B.tells → IsUnusedKept members.old (disk (B.given bank.old).start (B.tape bank.old)) (disk (B.given bank.old).start (B.tape bank.new)) }
-    ensures rise { IsRisen B.tells members.old members.new (B.tape bank.old) (B.tape bank.new) }
     ensures safe { B.tells → (world : World) → (told : Ledger)
         → IsSafeOver world (B.given bank.old) told members.old (B.tape bank.old)
         → KeepsSafe world (B.given bank.old) told members.new (B.tape bank.old) (B.tape bank.new) }
-    ensures given { B.given bank.new ≡ B.given bank.old }
-    ensures counts { NeverFalls (B.faults_of bank.old) (B.faults_of bank.new) }
 {
     let zeroed = zero_stripe(members, bank, shape, stripe, done, scratch);
     Stretch {
@@ -80,19 +68,14 @@ fn zero_part<B: Bank>(
     done: u64,
     scratch: &mut [u8],
 ) -> Part
-    requires slots { (B.given bank.old).slots ≤ 32 }
-    requires placed { IsPlaced (B.given bank.old) members.old }
-    requires unlost { AreUnlost members.old }
-    requires free { AreSparesFree (B.given bank.old) members.old }
+    requires stands { Stands (B.given bank.old) members.old }
     requires shape { shape.now ≡ final_shape members.old.newest }
     requires through { IsThrough members.old.newest }
     requires stripe { IsPastStripe shape.now members.old.newest.size (list_length members.old.newest) stripe }
     requires done { done < shape.now.chunk }
     requires scratch { 8192 ≤ length scratch.old }
-    ensures moved { IsMoved (B.given bank.old) members.old members.new }
-    ensures failed { HaveFailedSince members.old members.new result.spares (B.faults_of bank.old) (B.faults_of bank.new) }
+    ensures keeps { Keeps B.tells B.given B.tape B.faults_of bank.old bank.new members.old members.new result.spares }
     ensures refused { MatchOption result.refusal (DoWithout members.new) (AreTooMany members.new) }
-    ensures grows { Grows B.tells (B.tape bank.old) (B.tape bank.new) }
     ensures clean { is_clean members.new.newest ≡ is_clean members.old.newest }
     ensures further { result.refusal ≡ None → done < result.done }
     ensures reached { done ≤ result.done }
@@ -104,14 +87,10 @@ fn zero_part<B: Bank>(
         (present (B.given bank.old) (B.tape bank.old)) (present (B.given bank.old) (B.tape bank.new)) }
     ensures named { HasLiveSlot members.new → AreNamedMissing members.new }
     ensures headers { B.tells → AreHeadersKept (disk (B.given bank.old).start (B.tape bank.old)) (disk (B.given bank.old).start (B.tape bank.new)) }
-    ensures unused { B.tells → IsUnusedKept members.old (disk (B.given bank.old).start (B.tape bank.old)) (disk (B.given bank.old).start (B.tape bank.new)) }
-    ensures rise { IsRisen B.tells members.old members.new (B.tape bank.old) (B.tape bank.new) }
     ensures safe { B.tells → (world : World) → (told : Ledger) → HasRoomLeft members.old (B.tape bank.old) (B.tape bank.new)
         → AreGoneTold told members.new → IsUncleanTold told members.old
         → IsSafeOver world (B.given bank.old) told members.old (B.tape bank.old)
         → KeepsSafe world (B.given bank.old) told members.new (B.tape bank.old) (B.tape bank.new) }
-    ensures given { B.given bank.new ≡ B.given bank.old }
-    ensures counts { NeverFalls (B.faults_of bank.old) (B.faults_of bank.new) }
 {
     let Stretch { done, refused } = zero_stretch(members, bank, shape, stripe, done, scratch);
     let _ = refused;
@@ -133,18 +112,13 @@ pub fn zero<B: Bank>(
     stripe: u64,
     scratch: &mut [u8],
 ) -> Stepped
-    requires slots { (B.given bank.old).slots ≤ 32 }
-    requires placed { IsPlaced (B.given bank.old) members.old }
-    requires unlost { AreUnlost members.old }
-    requires free { AreSparesFree (B.given bank.old) members.old }
+    requires stands { Stands (B.given bank.old) members.old }
     requires shape { shape.now ≡ final_shape members.old.newest }
     requires through { IsThrough members.old.newest }
     requires stripe { IsPastStripe shape.now members.old.newest.size (list_length members.old.newest) stripe }
     requires scratch { 8192 ≤ length scratch.old }
-    ensures moved { IsMoved (B.given bank.old) members.old members.new }
-    ensures failed { HaveFailedSince members.old members.new result.spares (B.faults_of bank.old) (B.faults_of bank.new) }
+    ensures keeps { Keeps B.tells B.given B.tape B.faults_of bank.old bank.new members.old members.new result.spares }
     ensures refused { MatchOption result.refusal ⊤ (AreTooMany members.new) }
-    ensures grows { Grows B.tells (B.tape bank.old) (B.tape bank.new) }
     ensures clean { is_clean members.new.newest ≡ is_clean members.old.newest }
     ensures stands { result.refusal ≡ None → B.tells → (list : ℕ → Sector) → IsZeroIn (tail_of members.old.newest) list
         → (row : ℕ) → IsOfStripe shape.now stripe row
@@ -153,14 +127,10 @@ pub fn zero<B: Bank>(
         (present (B.given bank.old) (B.tape bank.old)) (present (B.given bank.old) (B.tape bank.new)) }
     ensures named { HasLiveSlot members.new → AreNamedMissing members.new }
     ensures headers { B.tells → AreHeadersKept (disk (B.given bank.old).start (B.tape bank.old)) (disk (B.given bank.old).start (B.tape bank.new)) }
-    ensures unused { B.tells → IsUnusedKept members.old (disk (B.given bank.old).start (B.tape bank.old)) (disk (B.given bank.old).start (B.tape bank.new)) }
-    ensures rise { IsRisen B.tells members.old members.new (B.tape bank.old) (B.tape bank.new) }
     ensures safe { B.tells → (world : World) → (told : Ledger) → HasRoomLeft members.old (B.tape bank.old) (B.tape bank.new)
         → AreGoneTold told members.new → IsUncleanTold told members.old
         → IsSafeOver world (B.given bank.old) told members.old (B.tape bank.old)
         → KeepsSafe world (B.given bank.old) told members.new (B.tape bank.old) (B.tape bank.new) }
-    ensures given { B.given bank.new ≡ B.given bank.old }
-    ensures counts { NeverFalls (B.faults_of bank.old) (B.faults_of bank.new) }
 {
     let chunk = u64::from(shape.chunk);
     let mut done = 0;

@@ -10,18 +10,17 @@ ghost use Rattle.sb_safe_updates.specs.sb_specs_Reads.{has_spare};
 ghost use Rattle.sb_safe_updates.specs.sb_specs_Held.{IsSecondHalf};
 ghost use Rattle.sb_safe_updates.specs.stripe_row_Rows.{reading_of, present};
 ghost use Rattle.sb_safe_updates.specs.history_World.{World};
-ghost use Rattle.sb_safe_updates.specs.array_members_Placed.{IsPlaced};
-ghost use Rattle.sb_safe_updates.specs.crash_safety_laws_Steady.{AreUnlost, IsSafeOver, KeepsSafe, AreGoneTold, IsUncleanTold, with_number};
+ghost use Rattle.sb_safe_updates.specs.crash_safety_laws_Steady.{IsSafeOver, KeepsSafe, AreGoneTold, IsUncleanTold, with_number};
 ghost use Rattle.sb_safe_updates.specs.crash_safety_laws_Marking.{adding, AreOthersPresent};
 ghost use Rattle.sb_safe_updates.specs.array_members_Flushing.{OnlyFlushesAdded};
-ghost use Rattle.sb_safe_updates.specs.array_members_Moving.{Grows, IsMoved};
-ghost use Rattle.sb_safe_updates.specs.crash_safety_laws_Safety.{HasLiveSlot, HasRoomLeft, IsRisen};
-ghost use Rattle.sb_safe_updates.specs.array_members_Lacking.{HaveFailedSince, AreUnnamed};
+ghost use Rattle.sb_safe_updates.specs.crash_safety_laws_Safety.{HasLiveSlot, HasRoomLeft};
+ghost use Rattle.sb_safe_updates.specs.array_members_Lacking.{AreUnnamed};
 ghost use Rattle.sb_safe_updates.specs.array_members_Under.{IsRestKept};
 ghost use Rattle.sb_safe_updates.specs.sb_codec_Superblock.{two_by_two};
 ghost use Rattle.sb_safe_updates.specs.array_members_Numbers.{IsSpareSb, IsOfScope, AreSecondEntries};
-ghost use Rattle.sb_safe_updates.specs.array_members_Rebuilding.{MayHold, AreSparesFree, IfOwn, with_spare};
+ghost use Rattle.sb_safe_updates.specs.array_members_Rebuilding.{MayHold, IfOwn, with_spare};
 ghost use Rattle.sb_safe_updates.specs.crash_views_Views.{Ledger};
+ghost use Rattle.sb_safe_updates.specs.Frame.{Stands, KeepsMembers};
 
 use sb_safe_updates::flushes::holders;
 use sb_safe_updates::{Bank, Change, Give, Members, Sb, fields_of, update, without};
@@ -94,32 +93,24 @@ fn check_count(members: &Members)
 /// Makes a slot that has no part in the array a spare with this superblock, and names the roles that no slot holds. The
 /// spares that were lost in this, among them this one.
 pub fn add_member<B: Bank>(members: &mut Members, bank: &mut B, slot: u32, sb: &Sb) -> u32
-    requires slots { (B.given bank.old).slots ≤ 32 }
-    requires placed { IsPlaced (B.given bank.old) members.old }
-    requires unlost { AreUnlost members.old }
-    requires free { AreSparesFree (B.given bank.old) members.old }
+    requires stands { Stands (B.given bank.old) members.old }
     requires slot { slot < (B.given bank.old).slots }
     requires untaken { (role : ℕ) → MayHold members.old role slot → ⊥ }
     requires made { IsSpareSb (B.given bank.old) members.old.newest slot sb.now }
     requires fresh { has_slot members.old.lost slot ≡ true → AreUnnamed members.old }
     ensures own { length members.old.own ≡ 32 }
-    ensures moved { IsMoved (B.given bank.old) (with_spare slot sb.now members.old) members.new }
-    ensures failed { HaveFailedSince (with_spare slot sb.now members.old) members.new result (B.faults_of bank.old) (B.faults_of bank.new) }
+    ensures keeps { KeepsMembers B.tells B.given B.tape B.faults_of bank.old bank.new (with_spare slot sb.now members.old) members.new result }
     ensures spare { has_slot result slot ≡ false → has_spare members.new.spares slot ≡ true }
     ensures lost { has_slot result slot ≡ true → has_spare members.new.spares slot ≡ false }
-    ensures grows { Grows B.tells (B.tape bank.old) (B.tape bank.new) }
     ensures others { B.tells → AreOthersPresent (present (B.given bank.old) (B.tape bank.old)) (present (B.given bank.old) (B.tape bank.new)) }
     ensures rest { B.tells → IsRestKept (with_spare slot sb.now members.old) (disk (B.given bank.old).start (B.tape bank.old)) (disk (B.given bank.old).start (B.tape bank.new)) }
     ensures clean { is_clean members.new.newest ≡ is_clean members.old.newest }
-    ensures rise { IsRisen B.tells (with_spare slot sb.now members.old) members.new (B.tape bank.old) (B.tape bank.new) }
     ensures stored { has_slot result slot ≡ false → IfOwn members.new slot (λ own. (own.dev_number ≡ sb.now.dev_number) × (own.data_offset ≡ sb.now.data_offset)) }
     ensures safe { B.tells → (world : World) → (told : Ledger) → HasRoomLeft members.old (B.tape bank.old) (B.tape bank.new)
         → AreGoneTold told members.new → IsUncleanTold told members.old → IsOfScope world.scope (B.given bank.old) slot sb.now → ((s : ℕ) → told.carried s sb.now.dev_number ≡ false)
         → ((sector : Sector) → IsIn (disk (B.given bank.old).start (B.tape bank.old) slot 9) sector → IsSecondHalf sb.now sector) → HasLiveSlot members.old
         → IsSafeOver world (B.given bank.old) told members.old (B.tape bank.old)
         → KeepsSafe world (B.given bank.old) (with_number slot sb.now.dev_number told) members.new (B.tape bank.old) (B.tape bank.new) }
-    ensures given { B.given bank.new ≡ B.given bank.old }
-    ensures counts { NeverFalls (B.faults_of bank.old) (B.faults_of bank.new) }
 {
     check_count(members);
     let change = adding(members, slot, sb);

@@ -14,6 +14,7 @@ pub mod WholeFlushed
 pub mod Widest
 pub mod Under
 pub mod Unused
+pub mod FrameLaws
 pub mod MarkEnds
 pub use Rattle.array_members.proofs.crash_safety_laws_Without
 pub use Rattle.array_members.proofs.crash_safety_laws_Carried

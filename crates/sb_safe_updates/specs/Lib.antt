@@ -1,6 +1,7 @@
 pub mod Named
 pub mod First
 pub mod Unused
+pub mod Frame
 pub use Rattle.array_members.specs.crash_safety_laws_Steady
 pub use Rattle.array_members.specs.crash_safety_laws_Marking
 pub use Rattle.array_members.specs.crash_safety_laws_Safety

@@ -1,24 +1,22 @@
 //! Marks of the superblocks, which name the roles that no slot holds.
 
 ghost use Rattle.std.specs.Prelude.{◌≡◌, ◌<◌, ◌≤◌, ◌^◌, ◌&&◌, ℕ, true, false, nat_lt, not, length};
-ghost use Rattle.sb_update.specs.bank_Given.{NeverFalls};
 ghost use Rattle.raid_layout.specs.raid_types_Shapes.{has_slot};
 ghost use Rattle.sb_update.specs.sb_specs_Reading.{role_count, is_clean};
 ghost use Rattle.array_members.specs.stripe_row_Rows.{reading_of, present};
-ghost use Rattle.array_members.specs.Placed.{is_unassigned, AreWhole, IsPlaced};
-ghost use Rattle.array_members.specs.crash_safety_laws_Steady.{AreUnlost, IsSafeOver, IsNamedOver, KeepsSafe, AreGoneTold, IsUncleanTold};
-ghost use Rattle.array_members.specs.Rebuilding.{AreSparesFree};
+ghost use Rattle.array_members.specs.Placed.{is_unassigned, AreWhole};
+ghost use Rattle.array_members.specs.crash_safety_laws_Steady.{IsSafeOver, IsNamedOver, KeepsSafe, AreGoneTold, IsUncleanTold};
 ghost use Rattle.array_members.specs.crash_safety_laws_Marking.{AreOthersPresent};
 ghost use Rattle.sb_safe_updates.specs.Named.{AreNamedMissing, AreDataKept};
-ghost use Rattle.array_members.specs.Moving.{Grows, IsMoved};
-ghost use Rattle.array_members.specs.crash_safety_laws_Safety.{HasLiveSlot, HasRoomLeft, IsRisen};
+ghost use Rattle.array_members.specs.crash_safety_laws_Safety.{HasLiveSlot, HasRoomLeft};
 ghost use Rattle.array_members.specs.Under.{IsRestKept};
-ghost use Rattle.array_members.specs.Lacking.{HaveFailedSince, AreHoldersFlushed, IsNamed, AreUnnamed};
+ghost use Rattle.array_members.specs.Lacking.{AreHoldersFlushed, IsNamed, AreUnnamed};
 ghost use Rattle.sb_update.specs.bank_Tape.{EachMark, disk};
 ghost use Rattle.array_members.specs.history_World.{World};
 ghost use Rattle.array_members.specs.history_Sound.{OpensFit};
 ghost use Rattle.array_members.specs.crash_views_Views.{Ledger};
 ghost use Rattle.array_members.specs.crash_safety_laws_Kinds.{IsMarkable};
+ghost use Rattle.sb_safe_updates.specs.Frame.{Stands, Keeps};
 
 use crate::flushes::holders;
 use crate::marks::set_clean_mark;
@@ -72,20 +70,14 @@ fn check_entries(newest: &Sb)
 
 /// Marks the array clean or dirty, which names the roles that no slot holds. The spares that were lost in this.
 pub fn mark_all<B: Bank>(members: &mut Members, bank: &mut B, clean: bool) -> u32
-    requires slots { (B.given bank.old).slots ≤ 32 }
-    requires placed { IsPlaced (B.given bank.old) members.old }
-    requires unlost { AreUnlost members.old }
-    requires free { AreSparesFree (B.given bank.old) members.old }
-    ensures moved { IsMoved (B.given bank.old) members.old members.new }
-    ensures failed { HaveFailedSince members.old members.new result (B.faults_of bank.old) (B.faults_of bank.new) }
-    ensures grows { Grows B.tells (B.tape bank.old) (B.tape bank.new) }
+    requires stands { Stands (B.given bank.old) members.old }
+    ensures keeps { Keeps B.tells B.given B.tape B.faults_of bank.old bank.new members.old members.new result }
     ensures others { B.tells → AreOthersPresent (present (B.given bank.old) (B.tape bank.old)) (present (B.given bank.old) (B.tape bank.new)) }
     ensures flushed { B.tells → AreHoldersFlushed (reading_of members.old) (B.given bank.old) (B.tape bank.old) → AreHoldersFlushed (reading_of members.old) (B.given bank.old) (B.tape bank.new) }
     ensures clean { is_clean members.new.newest ≡ clean }
     ensures missing { HasLiveSlot members.new → AreNamedMissing members.new }
     ensures rest { B.tells → IsRestKept members.old (disk (B.given bank.old).start (B.tape bank.old)) (disk (B.given bank.old).start (B.tape bank.new)) }
     ensures data { let start = (B.given bank.old).start in EachMark B.tells start (B.tape bank.old) (B.tape bank.new) (AreDataKept (disk start (B.tape bank.old))) }
-    ensures rise { IsRisen B.tells members.old members.new (B.tape bank.old) (B.tape bank.new) }
     ensures safe { B.tells → (world : World) → (told : Ledger) → HasRoomLeft members.old (B.tape bank.old) (B.tape bank.new)
         → IsMarkable (OpensFit world) world.scope clean told members.old members.new (disk (B.given bank.old).start (B.tape bank.old))
         → IsSafeOver world (B.given bank.old) told members.old (B.tape bank.old)
@@ -94,8 +86,6 @@ pub fn mark_all<B: Bank>(members: &mut Members, bank: &mut B, clean: bool) -> u3
         → IsMarkable (OpensFit world) world.scope clean told members.old members.new (disk (B.given bank.old).start (B.tape bank.old))
         → IsSafeOver world (B.given bank.old) told members.old (B.tape bank.old)
         → HasLiveSlot members.new → IsNamedOver world (B.given bank.old) told members.new (B.tape bank.new) }
-    ensures given { B.given bank.new ≡ B.given bank.old }
-    ensures counts { NeverFalls (B.faults_of bank.old) (B.faults_of bank.new) }
 {
     let held = holders(members);
     let lost = set_clean_mark(members, bank, clean);
@@ -106,13 +96,8 @@ pub fn mark_all<B: Bank>(members: &mut Members, bank: &mut B, clean: bool) -> u3
 /// Names the roles that no slot holds, where they aren't yet: an update that changes nothing else. The spares that were lost
 /// in this.
 pub fn record_missing<B: Bank>(members: &mut Members, bank: &mut B) -> u32
-    requires slots { (B.given bank.old).slots ≤ 32 }
-    requires placed { IsPlaced (B.given bank.old) members.old }
-    requires unlost { AreUnlost members.old }
-    requires free { AreSparesFree (B.given bank.old) members.old }
-    ensures moved { IsMoved (B.given bank.old) members.old members.new }
-    ensures failed { HaveFailedSince members.old members.new result (B.faults_of bank.old) (B.faults_of bank.new) }
-    ensures grows { Grows B.tells (B.tape bank.old) (B.tape bank.new) }
+    requires stands { Stands (B.given bank.old) members.old }
+    ensures keeps { Keeps B.tells B.given B.tape B.faults_of bank.old bank.new members.old members.new result }
     ensures others { B.tells → AreOthersPresent (present (B.given bank.old) (B.tape bank.old)) (present (B.given bank.old) (B.tape bank.new)) }
     ensures flushed { B.tells → AreHoldersFlushed (reading_of members.old) (B.given bank.old) (B.tape bank.old) → AreHoldersFlushed (reading_of members.old) (B.given bank.old) (B.tape bank.new) }
     ensures clean { is_clean members.new.newest ≡ is_clean members.old.newest }
@@ -121,15 +106,12 @@ pub fn record_missing<B: Bank>(members: &mut Members, bank: &mut B) -> u32
     ensures missing { HasLiveSlot members.new → AreNamedMissing members.new }
     ensures rest { B.tells → IsRestKept members.old (disk (B.given bank.old).start (B.tape bank.old)) (disk (B.given bank.old).start (B.tape bank.new)) }
     ensures data { let start = (B.given bank.old).start in EachMark B.tells start (B.tape bank.old) (B.tape bank.new) (AreDataKept (disk start (B.tape bank.old))) }
-    ensures rise { IsRisen B.tells members.old members.new (B.tape bank.old) (B.tape bank.new) }
     ensures safe { B.tells → (world : World) → (told : Ledger) → HasRoomLeft members.old (B.tape bank.old) (B.tape bank.new)
         → AreGoneTold told members.new → IsUncleanTold told members.old → IsSafeOver world (B.given bank.old) told members.old (B.tape bank.old)
         → KeepsSafe world (B.given bank.old) told members.new (B.tape bank.old) (B.tape bank.new) }
     ensures named { B.tells → (world : World) → (told : Ledger) → HasRoomLeft members.old (B.tape bank.old) (B.tape bank.new)
         → AreGoneTold told members.new → IsUncleanTold told members.old → IsSafeOver world (B.given bank.old) told members.old (B.tape bank.old)
         → HasLiveSlot members.new → IsNamedOver world (B.given bank.old) told members.new (B.tape bank.new) }
-    ensures given { B.given bank.new ≡ B.given bank.old }
-    ensures counts { NeverFalls (B.faults_of bank.old) (B.faults_of bank.new) }
 {
     if !has_unnamed(members) {
         return 0;
@@ -140,23 +122,15 @@ pub fn record_missing<B: Bank>(members: &mut Members, bank: &mut B) -> u32
 
 /// Marks a clean array dirty, and names the roles that no slot holds. The spares that were lost in this.
 pub fn mark_dirty<B: Bank>(members: &mut Members, bank: &mut B) -> u32
-    requires slots { (B.given bank.old).slots ≤ 32 }
-    requires placed { IsPlaced (B.given bank.old) members.old }
-    requires unlost { AreUnlost members.old }
-    requires free { AreSparesFree (B.given bank.old) members.old }
-    ensures moved { IsMoved (B.given bank.old) members.old members.new }
-    ensures failed { HaveFailedSince members.old members.new result (B.faults_of bank.old) (B.faults_of bank.new) }
-    ensures grows { Grows B.tells (B.tape bank.old) (B.tape bank.new) }
+    requires stands { Stands (B.given bank.old) members.old }
+    ensures keeps { Keeps B.tells B.given B.tape B.faults_of bank.old bank.new members.old members.new result }
     ensures others { B.tells → AreOthersPresent (present (B.given bank.old) (B.tape bank.old)) (present (B.given bank.old) (B.tape bank.new)) }
     ensures dirty { is_clean members.new.newest ≡ false }
     ensures missing { HasLiveSlot members.new → AreNamedMissing members.new }
     ensures rest { B.tells → IsRestKept members.old (disk (B.given bank.old).start (B.tape bank.old)) (disk (B.given bank.old).start (B.tape bank.new)) }
-    ensures rise { IsRisen B.tells members.old members.new (B.tape bank.old) (B.tape bank.new) }
     ensures safe { B.tells → (world : World) → (told : Ledger) → HasRoomLeft members.old (B.tape bank.old) (B.tape bank.new)
         → AreGoneTold told members.new → told.unclean ≡ true → IsSafeOver world (B.given bank.old) told members.old (B.tape bank.old)
         → KeepsSafe world (B.given bank.old) told members.new (B.tape bank.old) (B.tape bank.new) }
-    ensures given { B.given bank.new ≡ B.given bank.old }
-    ensures counts { NeverFalls (B.faults_of bank.old) (B.faults_of bank.new) }
 {
     if is_clean(&members.newest) {
         return mark_all(members, bank, false);

@@ -1,5 +1,6 @@
 pub mod ReadParts
 pub mod FillingLaws
+pub use Rattle.sb_safe_updates.proofs.FrameLaws as sb_safe_updates_FrameLaws
 pub mod SyncedStripes
 pub mod UnusedReads
 pub use Rattle.sb_safe_updates.proofs.RefusingLaws as sb_safe_updates_RefusingLaws

@@ -1,4 +1,5 @@
 pub mod Filled
+pub use Rattle.sb_safe_updates.specs.Frame as sb_safe_updates_Frame
 pub use Rattle.sb_safe_updates.specs.First as sb_safe_updates_First
 pub use Rattle.sb_safe_updates.specs.Unused as sb_safe_updates_Unused
 pub use Rattle.sb_safe_updates.specs.array_members_Placed

@@ -1,7 +1,7 @@
 //! A stripe of a role is rebuilt on the slot that recovers it.
 
 ghost use Rattle.std.specs.Prelude.{◌≡◌, ◌⊎◌, ◌+◌, ◌*◌, ◌^◌, ◌<◌, ◌≤◌, ℕ, true, false, length, slice_index, vec_capacity, Contains, None, MatchOption, IfSome, IfNone, IsTrue, ⊤};
-ghost use Rattle.sb_safe_updates.specs.bank_Given.{NeverFalls, IsFaulted};
+ghost use Rattle.sb_safe_updates.specs.bank_Given.{IsFaulted};
 ghost use Rattle.sb_safe_updates.specs.bank_Tape.{EachMark, disk};
 ghost use Rattle.sb_safe_updates.specs.raid_types_Sectors.{Sector};
 ghost use Rattle.sb_safe_updates.specs.raid_types_Shapes.{is_valid_shape, data_disks};
@@ -14,15 +14,15 @@ ghost use Rattle.sb_safe_updates.specs.stripe_list_Buffers.{AreDistinct, IsTouch
 ghost use Rattle.sb_safe_updates.specs.stripe_list_Writing.{AreDataOf, AreDataFrom, AreSuperblocksKept, HasFull};
 ghost use Rattle.sb_safe_updates.specs.history_World.{World};
 ghost use Rattle.sb_safe_updates.specs.array_members_Placed.{IsPlaced};
-ghost use Rattle.sb_safe_updates.specs.crash_safety_laws_Steady.{AreUnlost, IsSafeOver, KeepsSafe, AreGoneTold, IsUncleanTold};
-ghost use Rattle.sb_safe_updates.specs.array_members_Moving.{Grows, IsMoved};
-ghost use Rattle.sb_safe_updates.specs.crash_safety_laws_Safety.{HasLiveSlot, HasRoomLeft, IsRisen};
+ghost use Rattle.sb_safe_updates.specs.crash_safety_laws_Steady.{IsSafeOver, KeepsSafe, AreGoneTold, IsUncleanTold};
+ghost use Rattle.sb_safe_updates.specs.crash_safety_laws_Safety.{HasLiveSlot, HasRoomLeft};
 ghost use Rattle.sb_safe_updates.specs.array_members_Status.{stripes_of};
-ghost use Rattle.sb_safe_updates.specs.array_members_Lacking.{HaveFailedSince, LacksTooMany, DataStandsAmong, RowsStandAmong, IsOfStripe};
-ghost use Rattle.sb_safe_updates.specs.array_members_Rebuilding.{AreSparesFree, IsFilling, IsFilledAmong};
+ghost use Rattle.sb_safe_updates.specs.array_members_Lacking.{LacksTooMany, DataStandsAmong, RowsStandAmong, IsOfStripe};
+ghost use Rattle.sb_safe_updates.specs.array_members_Rebuilding.{IsFilling, IsFilledAmong};
 ghost use Rattle.sb_safe_updates.specs.Named.{AreNamedMissing};
 ghost use Rattle.stripe_io.specs.Filled.{IsNamedFirst};
 ghost use Rattle.sb_safe_updates.specs.crash_views_Views.{Ledger};
+ghost use Rattle.sb_safe_updates.specs.Frame.{Stands, KeepsMembers, GoesOn};
 
 use sb_safe_updates::naming::record_missing;
 use sb_safe_updates::refusing::{refused_by, too_many_of};
@@ -88,9 +88,7 @@ fn fill_row<B: Bank>(
         → HasFull (reading_of members.now) (present (B.given bank.old) (B.tape bank.new)) shape.now list row target.now.role target.now.slot }
     ensures others { B.tells → IsFilledAmong members.now target.now.role target.now.slot (λ other. other ≡ row) (present (B.given bank.old) (B.tape bank.old)) (present (B.given bank.old) (B.tape bank.new)) }
     ensures failed { result ≡ false → IsFaulted target.now.slot (B.faults_of bank.old) (B.faults_of bank.new) }
-    ensures grows { Grows B.tells (B.tape bank.old) (B.tape bank.new) }
-    ensures given { B.given bank.new ≡ B.given bank.old }
-    ensures counts { NeverFalls (B.faults_of bank.old) (B.faults_of bank.new) }
+    ensures bank { GoesOn B.tells B.given B.tape B.faults_of bank.old bank.new }
 {
     make_sector(shape, row, target.role, bytes);
     if row < target.held {
@@ -131,9 +129,7 @@ fn write_filled<B: Bank>(
         → HasFull (reading_of members.now) (present (B.given bank.old) (B.tape bank.new)) shape.now list (slice_index rows.now i) target.now.role target.now.slot }
     ensures others { B.tells → IsFilledAmong members.now target.now.role target.now.slot (Contains rows.now) (present (B.given bank.old) (B.tape bank.old)) (present (B.given bank.old) (B.tape bank.new)) }
     ensures failed { result ≡ false → IsFaulted target.now.slot (B.faults_of bank.old) (B.faults_of bank.new) }
-    ensures grows { Grows B.tells (B.tape bank.old) (B.tape bank.new) }
-    ensures given { B.given bank.new ≡ B.given bank.old }
-    ensures counts { NeverFalls (B.faults_of bank.old) (B.faults_of bank.new) }
+    ensures bank { GoesOn B.tells B.given B.tape B.faults_of bank.old bank.new }
     ensures size { length buffer.new ≡ length buffer.old }
 {
     let len = 512 * shape.disks as usize;
@@ -156,10 +152,7 @@ fn fill_rows<B: Bank>(
     rows: &[u64],
     buffer: &mut [u8],
 ) -> u32
-    requires slots { (B.given bank.old).slots ≤ 32 }
-    requires placed { IsPlaced (B.given bank.old) members.old }
-    requires unlost { AreUnlost members.old }
-    requires free { AreSparesFree (B.given bank.old) members.old }
+    requires stands { Stands (B.given bank.old) members.old }
     requires named { role_state (reading_of members.old) target.now.role ≡ IsRecovering target.now.slot → AreNamedMissing members.old }
     requires shape { shape.now ≡ shape_of members.old.newest }
     requires role { target.now.role < shape.now.disks }
@@ -169,8 +162,7 @@ fn fill_rows<B: Bank>(
     requires below { (row : ℕ) → Contains rows.now row → row < members.old.newest.size }
     requires once { AreDistinct rows.now }
     requires buffer { 8192 * length rows.now ≤ length buffer.old }
-    ensures moved { IsMoved (B.given bank.old) members.old members.new }
-    ensures failed { HaveFailedSince members.old members.new result (B.faults_of bank.old) (B.faults_of bank.new) }
+    ensures keeps { KeepsMembers B.tells B.given B.tape B.faults_of bank.old bank.new members.old members.new result }
     ensures clean { is_clean members.new.newest ≡ is_clean members.old.newest }
     ensures missing { AreNamedMissing members.old → HasLiveSlot members.new → AreNamedMissing members.new }
     ensures kept { role_state (reading_of members.new) target.now.role ≡ IsRecovering target.now.slot → let start = (B.given bank.old).start in EachMark B.tells start (B.tape bank.old) (B.tape bank.new)
@@ -180,13 +172,9 @@ fn fill_rows<B: Bank>(
         → HasFull (reading_of members.new) (present (B.given bank.old) (B.tape bank.new)) shape.now list (slice_index rows.now i) target.now.role target.now.slot }
     ensures others { B.tells → (B.tape bank.new ≡ B.tape bank.old) ⊎ ((role_state (reading_of members.old) target.now.role ≡ IsRecovering target.now.slot)
         × IsFilledAmong members.old target.now.role target.now.slot (Contains rows.now) (present (B.given bank.old) (B.tape bank.old)) (present (B.given bank.old) (B.tape bank.new))) }
-    ensures grows { Grows B.tells (B.tape bank.old) (B.tape bank.new) }
-    ensures rise { IsRisen B.tells members.old members.new (B.tape bank.old) (B.tape bank.new) }
     ensures safe { B.tells → (world : World) → (told : Ledger) → HasRoomLeft members.old (B.tape bank.old) (B.tape bank.new)
         → AreGoneTold told members.new → IsUncleanTold told members.old → IsSafeOver world (B.given bank.old) told members.old (B.tape bank.old)
         → KeepsSafe world (B.given bank.old) told members.new (B.tape bank.old) (B.tape bank.new) }
-    ensures given { B.given bank.new ≡ B.given bank.old }
-    ensures counts { NeverFalls (B.faults_of bank.old) (B.faults_of bank.new) }
     ensures size { length buffer.new ≡ length buffer.old }
 {
     if recovering_slot(members, target.role).is_none() {
@@ -212,10 +200,7 @@ fn fill_part<B: Bank>(
     rows: &mut Vec<u64>,
     buffer: &mut Vec<u8>,
 ) -> Filled
-    requires slots { (B.given bank.old).slots ≤ 32 }
-    requires placed { IsPlaced (B.given bank.old) members.old }
-    requires unlost { AreUnlost members.old }
-    requires free { AreSparesFree (B.given bank.old) members.old }
+    requires stands { Stands (B.given bank.old) members.old }
     requires shape { shape.now ≡ shape_of members.old.newest }
     requires role { target.now.role < shape.now.disks }
     requires recovering { role_state (reading_of members.old) target.now.role ≡ IsRecovering target.now.slot }
@@ -226,10 +211,8 @@ fn fill_part<B: Bank>(
     requires short { first + count < 2 ^ 53 }
     requires rows { 128 ≤ vec_capacity rows.old }
     requires buffer { 1048576 ≤ length buffer.old.items }
-    ensures moved { IsMoved (B.given bank.old) members.old members.new }
-    ensures failed { HaveFailedSince members.old members.new result.spares (B.faults_of bank.old) (B.faults_of bank.new) }
+    ensures keeps { KeepsMembers B.tells B.given B.tape B.faults_of bank.old bank.new members.old members.new result.spares }
     ensures refused { MatchOption result.refusal ⊤ (LacksTooMany shape.now members.new) }
-    ensures grows { Grows B.tells (B.tape bank.old) (B.tape bank.new) }
     ensures clean { is_clean members.new.newest ≡ is_clean members.old.newest }
     ensures missing { result.refusal ≡ None → HasLiveSlot members.new → AreNamedMissing members.new }
     ensures named { role_state (reading_of members.new) target.now.role ≡ IsRecovering target.now.slot → let start = (B.given bank.old).start in EachMark B.tells start (B.tape bank.old) (B.tape bank.new)
@@ -239,12 +222,9 @@ fn fill_part<B: Bank>(
         → (row : ℕ) → IsTouched shape.now first count row → target.now.held ≤ row
         → HasFull (reading_of members.new) (present (B.given bank.old) (B.tape bank.new)) shape.now list row target.now.role target.now.slot }
     ensures others { B.tells → IsFilledAmong members.old target.now.role target.now.slot (IsTouched shape.now first count) (present (B.given bank.old) (B.tape bank.old)) (present (B.given bank.old) (B.tape bank.new)) }
-    ensures rise { IsRisen B.tells members.old members.new (B.tape bank.old) (B.tape bank.new) }
     ensures safe { B.tells → (world : World) → (told : Ledger) → HasRoomLeft members.old (B.tape bank.old) (B.tape bank.new)
         → AreGoneTold told members.new → IsUncleanTold told members.old → IsSafeOver world (B.given bank.old) told members.old (B.tape bank.old)
         → KeepsSafe world (B.given bank.old) told members.new (B.tape bank.old) (B.tape bank.new) }
-    ensures given { B.given bank.new ≡ B.given bank.old }
-    ensures counts { NeverFalls (B.faults_of bank.old) (B.faults_of bank.new) }
     ensures rows { vec_capacity rows.old ≤ vec_capacity rows.new }
     ensures buffer { length buffer.new.items ≡ length buffer.old.items }
 {
@@ -319,10 +299,7 @@ pub fn fill<B: Bank>(
     rows: &mut Vec<u64>,
     buffer: &mut Vec<u8>,
 ) -> Filled
-    requires slots { (B.given bank.old).slots ≤ 32 }
-    requires placed { IsPlaced (B.given bank.old) members.old }
-    requires unlost { AreUnlost members.old }
-    requires free { AreSparesFree (B.given bank.old) members.old }
+    requires stands { Stands (B.given bank.old) members.old }
     requires still { is_reshaping members.old.newest ≡ false }
     requires shape { shape.now ≡ shape_of members.old.newest }
     requires role { role < shape.now.disks }
@@ -330,22 +307,17 @@ pub fn fill<B: Bank>(
     requires stripe { stripe < stripes_of members.old }
     requires rows { 128 ≤ vec_capacity rows.old }
     requires buffer { 1048576 ≤ length buffer.old.items }
-    ensures moved { IsMoved (B.given bank.old) members.old members.new }
-    ensures failed { HaveFailedSince members.old members.new result.spares (B.faults_of bank.old) (B.faults_of bank.new) }
+    ensures keeps { KeepsMembers B.tells B.given B.tape B.faults_of bank.old bank.new members.old members.new result.spares }
     ensures refused { MatchOption result.refusal ⊤ (LacksTooMany shape.now members.new) }
-    ensures grows { Grows B.tells (B.tape bank.old) (B.tape bank.new) }
     ensures clean { is_clean members.new.newest ≡ is_clean members.old.newest }
     ensures filled { result.refusal ≡ None → role_state (reading_of members.new) role ≡ IsRecovering slot → B.tells → (list : ℕ → Sector)
         → DataStandsAmong shape.now (IsOfStripe shape.now stripe) members.old (present (B.given bank.old) (B.tape bank.old)) list → RowsStandAmong shape.now (IsOfStripe shape.now stripe) members.old (present (B.given bank.old) (B.tape bank.old)) list
         → (row : ℕ) → IsOfStripe shape.now stripe row → rows_held (reading_of members.old) (IsRecovering slot) ≤ row
         → HasFull (reading_of members.new) (present (B.given bank.old) (B.tape bank.new)) shape.now list row role slot }
     ensures others { B.tells → IsFilledAmong members.old role slot (IsOfStripe shape.now stripe) (present (B.given bank.old) (B.tape bank.old)) (present (B.given bank.old) (B.tape bank.new)) }
-    ensures rise { IsRisen B.tells members.old members.new (B.tape bank.old) (B.tape bank.new) }
     ensures safe { B.tells → (world : World) → (told : Ledger) → HasRoomLeft members.old (B.tape bank.old) (B.tape bank.new)
         → AreGoneTold told members.new → IsUncleanTold told members.old → IsSafeOver world (B.given bank.old) told members.old (B.tape bank.old)
         → KeepsSafe world (B.given bank.old) told members.new (B.tape bank.old) (B.tape bank.new) }
-    ensures given { B.given bank.new ≡ B.given bank.old }
-    ensures counts { NeverFalls (B.faults_of bank.old) (B.faults_of bank.new) }
     ensures rows { vec_capacity rows.old ≤ vec_capacity rows.new }
     ensures buffer { length buffer.new.items ≡ length buffer.old.items }
 {

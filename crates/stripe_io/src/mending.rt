@@ -1,8 +1,6 @@
 //! The parity of stripes is made to fit their data.
 
 ghost use Rattle.std.specs.Prelude.{◌≡◌, ◌/◌, ◌<◌, ◌≤◌, ℕ, true, false, length, vec_capacity, None, Some, MatchOption, IfSome, IsTrue, ⊤};
-ghost use Rattle.sb_safe_updates.specs.bank_Given.{NeverFalls};
-ghost use Rattle.sb_safe_updates.specs.bank_Tape.{disk};
 ghost use Rattle.sb_safe_updates.specs.raid_types_Sectors.{Sector};
 ghost use Rattle.sb_safe_updates.specs.raid_types_Shapes.{is_valid_shape, is_multiple};
 ghost use Rattle.sb_safe_updates.specs.raid_types_the_Role_TheVariants.{Recovering as IsRecovering};
@@ -10,16 +8,14 @@ ghost use Rattle.sb_safe_updates.specs.sb_specs_Reading.{shape_of, is_clean, rol
 ghost use Rattle.sb_safe_updates.specs.stripe_row_Rows.{reading_of, present};
 ghost use Rattle.sb_safe_updates.specs.stripe_list_Full.{AreWholeIn, RowStands};
 ghost use Rattle.sb_safe_updates.specs.stripe_list_Writing.{HasFull};
-ghost use Rattle.sb_safe_updates.specs.array_members_Placed.{IsPlaced, IsInForce};
-ghost use Rattle.sb_safe_updates.specs.crash_safety_laws_Steady.{AreUnlost, IsSafeOver, KeepsSafe, AreGoneTold, AreWritesAllowed};
-ghost use Rattle.sb_safe_updates.specs.array_members_Rebuilding.{AreSparesFree};
-ghost use Rattle.sb_safe_updates.specs.array_members_Moving.{Grows, IsMoved};
-ghost use Rattle.sb_safe_updates.specs.crash_safety_laws_Safety.{HasRoomLeft, IsRisen};
+ghost use Rattle.sb_safe_updates.specs.array_members_Placed.{IsInForce};
+ghost use Rattle.sb_safe_updates.specs.crash_safety_laws_Steady.{IsSafeOver, KeepsSafe, AreGoneTold, AreWritesAllowed};
+ghost use Rattle.sb_safe_updates.specs.crash_safety_laws_Safety.{HasRoomLeft};
 ghost use Rattle.sb_safe_updates.specs.array_members_Status.{stripes_of};
 ghost use Rattle.sb_safe_updates.specs.crash_views_Windows.{IsOfRegion};
-ghost use Rattle.sb_safe_updates.specs.array_members_Lacking.{HaveFailedSince, DoesWithout, IsUnwritten, DataStandsAmong, AreOtherRowsKept, IsOfStripe, synced_rows};
+ghost use Rattle.sb_safe_updates.specs.array_members_Lacking.{DoesWithout, IsUnwritten, DataStandsAmong, AreOtherRowsKept, IsOfStripe, synced_rows};
 ghost use Rattle.sb_safe_updates.specs.First.{write_refusal};
-ghost use Rattle.sb_safe_updates.specs.Unused.{IsUnusedKept};
+ghost use Rattle.sb_safe_updates.specs.Frame.{Stands, Keeps};
 ghost use Rattle.sb_safe_updates.specs.history_World.{World};
 ghost use Rattle.sb_safe_updates.specs.history_Sound.{OpensFit};
 ghost use Rattle.sb_safe_updates.specs.crash_views_Views.{Ledger, IsTailZero};
@@ -72,20 +68,15 @@ pub fn resync_rows<B: Bank>(
     rows: &mut Vec<u64>,
     buffer: &mut Vec<u8>,
 ) -> Mended
-    requires slots { (B.given bank.old).slots ≤ 32 }
-    requires placed { IsPlaced (B.given bank.old) members.old }
-    requires unlost { AreUnlost members.old }
-    requires free { AreSparesFree (B.given bank.old) members.old }
+    requires stands { Stands (B.given bank.old) members.old }
     requires shape { IsInForce members.old.newest shape.now }
     requires stripe { stripe < members.old.newest.size / shape.now.chunk }
     requires dirty { is_clean members.old.newest ≡ false }
     requires rows { 128 ≤ vec_capacity rows.old }
     requires buffer { 1048576 ≤ length buffer.old.items }
-    ensures moved { IsMoved (B.given bank.old) members.old members.new }
-    ensures failed { HaveFailedSince members.old members.new result.spares (B.faults_of bank.old) (B.faults_of bank.new) }
+    ensures keeps { Keeps B.tells B.given B.tape B.faults_of bank.old bank.new members.old members.new result.spares }
     ensures refused { MatchOption result.refusal ⊤ (IsUnwritten shape.now false members.new) }
     ensures first { MatchOption result.refusal ⊤ (λ refusal. write_refusal shape.now false members.new ≡ Some refusal) }
-    ensures grows { Grows B.tells (B.tape bank.old) (B.tape bank.new) }
     ensures dirty { is_clean members.new.newest ≡ false }
     ensures mended { result.refusal ≡ None → B.tells → (list : ℕ → Sector) → DataStandsAmong shape.now (IsOfStripe shape.now stripe) members.old (present (B.given bank.old) (B.tape bank.old)) list
         → (row : ℕ) → IsOfStripe shape.now stripe row → AreWholeIn shape.now list row → RowStands (reading_of members.new) (present (B.given bank.old) (B.tape bank.new)) shape.now list row }
@@ -99,15 +90,11 @@ pub fn resync_rows<B: Bank>(
         → (role slot row : ℕ) → role < shape.now.disks → role_state (reading_of members.new) role ≡ IsRecovering slot → IsOfStripe shape.now stripe row
         → HasFull (reading_of members.old) (present (B.given bank.old) (B.tape bank.old)) shape.now list row role slot
         → HasFull (reading_of members.new) (present (B.given bank.old) (B.tape bank.new)) shape.now list row role slot }
-    ensures unused { B.tells → IsUnusedKept members.old (disk (B.given bank.old).start (B.tape bank.old)) (disk (B.given bank.old).start (B.tape bank.new)) }
-    ensures rise { IsRisen B.tells members.old members.new (B.tape bank.old) (B.tape bank.new) }
     ensures safe { B.tells → (world : World) → (told : Ledger) → HasRoomLeft members.old (B.tape bank.old) (B.tape bank.new)
         → AreGoneTold told members.new → told.unclean ≡ true → (list : ℕ → Sector) → DataStandsAmong shape.now (IsOfStripe shape.now stripe) members.old (present (B.given bank.old) (B.tape bank.old)) list
         → IsOfRegion members.old shape.now (IsOfStripe shape.now stripe) → AreWritesAllowed members.old told.values list
         → (OpensFit world → IsTailZero members.old.newest list) → IsSafeOver world (B.given bank.old) told members.old (B.tape bank.old)
         → KeepsSafe world (B.given bank.old) told members.new (B.tape bank.old) (B.tape bank.new) }
-    ensures given { B.given bank.new ≡ B.given bank.old }
-    ensures counts { NeverFalls (B.faults_of bank.old) (B.faults_of bank.new) }
     ensures rows { vec_capacity rows.old ≤ vec_capacity rows.new }
     ensures buffer { length buffer.new.items ≡ length buffer.old.items }
 {

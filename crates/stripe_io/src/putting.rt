@@ -1,8 +1,6 @@
 //! Writes of an array that may lack members.
 
 ghost use Rattle.std.specs.Prelude.{◌≡◌, ◌⊎◌, ◌+◌, ◌*◌, ◌/◌, ◌^◌, ◌<◌, ◌≤◌, ℕ, true, false, length, slice_index, Contains, vec_capacity, None, Some, MatchOption, ⊤};
-ghost use Rattle.sb_safe_updates.specs.bank_Given.{NeverFalls};
-ghost use Rattle.sb_safe_updates.specs.bank_Tape.{disk};
 ghost use Rattle.sb_safe_updates.specs.raid_types_Sectors.{Sector, IsWhole};
 ghost use Rattle.sb_safe_updates.specs.raid_types_the_Role_TheVariants.{Recovering as IsRecovering};
 ghost use Rattle.sb_safe_updates.specs.sb_specs_Reading.{is_clean, role_state};
@@ -11,22 +9,20 @@ ghost use Rattle.sb_safe_updates.specs.stripe_list_Buffers.{buffered, AreDistinc
 ghost use Rattle.sb_safe_updates.specs.stripe_list_Full.{AreWholeIn, RowStands};
 ghost use Rattle.sb_safe_updates.specs.stripe_list_Writing.{IsWritten, AreDataFrom, HasFull};
 ghost use Rattle.sb_safe_updates.specs.raid_types_Shapes.{data_disks};
-ghost use Rattle.sb_safe_updates.specs.array_members_Placed.{AreWhole, IsPlaced, IsInForce};
-ghost use Rattle.sb_safe_updates.specs.crash_safety_laws_Steady.{AreUnlost, IsSafeOver, KeepsSafe, AreGoneTold, AreWritesAllowed};
-ghost use Rattle.sb_safe_updates.specs.array_members_Rebuilding.{AreSparesFree};
-ghost use Rattle.sb_safe_updates.specs.array_members_Moving.{Grows, IsMoved};
+ghost use Rattle.sb_safe_updates.specs.array_members_Placed.{AreWhole, IsInForce};
+ghost use Rattle.sb_safe_updates.specs.crash_safety_laws_Steady.{IsSafeOver, KeepsSafe, AreGoneTold, AreWritesAllowed};
 ghost use Rattle.sb_safe_updates.specs.crash_safety_laws_Marking.{AreOthersPresent};
-ghost use Rattle.sb_safe_updates.specs.crash_safety_laws_Safety.{HasRoomLeft, IsRisen};
+ghost use Rattle.sb_safe_updates.specs.crash_safety_laws_Safety.{HasRoomLeft};
 ghost use Rattle.sb_safe_updates.specs.crash_views_Windows.{IsOfRegion};
-ghost use Rattle.sb_safe_updates.specs.array_members_Lacking.{HaveFailedSince, LacksTooMany, IsUnwritten, DataStandsAmong, RowsStandAmong, AreOtherRowsKept, AreBytes, AreRowsRead, AreRowsWritten};
+ghost use Rattle.sb_safe_updates.specs.array_members_Lacking.{LacksTooMany, IsUnwritten, DataStandsAmong, RowsStandAmong, AreOtherRowsKept, AreBytes, AreRowsRead, AreRowsWritten};
 ghost use Rattle.sb_safe_updates.specs.First.{write_refusal};
-ghost use Rattle.sb_safe_updates.specs.Unused.{IsUnusedKept};
+ghost use Rattle.sb_safe_updates.specs.Frame.{Stands, Keeps};
 ghost use Rattle.sb_safe_updates.specs.history_World.{World};
 ghost use Rattle.sb_safe_updates.specs.history_Sound.{OpensFit};
 ghost use Rattle.sb_safe_updates.specs.crash_views_Views.{Ledger, IsTailZero};
 
-use sb_safe_updates::naming::{mark_dirty, record_missing};
-use sb_safe_updates::refusing::{first_write_refusal, refused_by, too_many_of};
+use sb_safe_updates::naming::{record_missing, mark_dirty};
+use sb_safe_updates::refusing::{refused_by, too_many_of, first_write_refusal};
 use sb_safe_updates::{Bank, Members, Refusal, Shape, read_touched, write_touched};
 
 // The first row that isn't written, and why the rows weren't all written.
@@ -62,9 +58,7 @@ fn write_stretch<B: Bank>(
     start: usize,
     buffer: &mut Vec<u8>,
 ) -> Part
-    requires slots { (B.given bank.old).slots ≤ 32 }
-    requires placed { IsPlaced (B.given bank.old) members.old }
-    requires unlost { AreUnlost members.old }
+    requires stands { Stands (B.given bank.old) members.old }
     requires shape { IsInForce members.old.newest shape.now }
     requires from { IsWhole from.now }
     requires short { first + length from.now / 512 < 2 ^ 63 }
@@ -75,10 +69,8 @@ fn write_stretch<B: Bank>(
     requires buffer { 1048576 ≤ length buffer.old.items }
     requires standing { B.tells → (i : ℕ) → start ≤ i → i < length rows.now → AreStanding (reading_of members.old)
         (present (B.given bank.old) (B.tape bank.old)) shape.now (slice_index rows.now i) (buffered buffer.old.items i) }
-    ensures moved { IsMoved (B.given bank.old) members.old members.new }
-    ensures failed { HaveFailedSince members.old members.new 0 (B.faults_of bank.old) (B.faults_of bank.new) }
+    ensures keeps { Keeps B.tells B.given B.tape B.faults_of bank.old bank.new members.old members.new 0 }
     ensures refused { MatchOption result.refusal ⊤ (LacksTooMany shape.now members.new) }
-    ensures grows { Grows B.tells (B.tape bank.old) (B.tape bank.new) }
     ensures written { B.tells → AreRowsWritten shape.now first from.now rows.now start result.next members.new
         (present (B.given bank.old) (B.tape bank.old)) (present (B.given bank.old) (B.tape bank.new)) buffer.old.items buffer.new.items }
     ensures reached { start ≤ result.next }
@@ -86,14 +78,10 @@ fn write_stretch<B: Bank>(
     ensures further { result.refusal ≡ None → start < length rows.now → start < result.next }
     ensures clean { is_clean members.new.newest ≡ is_clean members.old.newest }
     ensures kept { AreWhole members.new → members.new ≡ members.old }
-    ensures unused { B.tells → IsUnusedKept members.old (disk (B.given bank.old).start (B.tape bank.old)) (disk (B.given bank.old).start (B.tape bank.new)) }
-    ensures rise { IsRisen B.tells members.old members.new (B.tape bank.old) (B.tape bank.new) }
     ensures safe { B.tells → (world : World) → (told : Ledger) → is_clean members.old.newest ≡ false → IsOfRegion members.old shape.now (Contains rows.now) → (list list' : ℕ → Sector) → IsWritten list list' first from.now
         → (B.tells → AreDataFrom start shape.now list rows.now buffer.old.items) → AreWritesAllowed members.old told.values list'
         → (OpensFit world → IsTailZero members.old.newest list') → IsSafeOver world (B.given bank.old) told members.old (B.tape bank.old)
         → KeepsSafe world (B.given bank.old) told members.new (B.tape bank.old) (B.tape bank.new) }
-    ensures given { B.given bank.new ≡ B.given bank.old }
-    ensures counts { NeverFalls (B.faults_of bank.old) (B.faults_of bank.new) }
     ensures size { length buffer.new.items ≡ length buffer.old.items }
 {
     let written = write_touched(members, bank, shape, first, from, rows, start, buffer);
@@ -113,10 +101,7 @@ fn put_stretch<B: Bank>(
     start: usize,
     buffer: &mut Vec<u8>,
 ) -> Stretch
-    requires slots { (B.given bank.old).slots ≤ 32 }
-    requires placed { IsPlaced (B.given bank.old) members.old }
-    requires unlost { AreUnlost members.old }
-    requires free { AreSparesFree (B.given bank.old) members.old }
+    requires stands { Stands (B.given bank.old) members.old }
     requires shape { IsInForce members.old.newest shape.now }
     requires from { IsWhole from.now }
     requires short { first + length from.now / 512 < 2 ^ 63 }
@@ -127,10 +112,8 @@ fn put_stretch<B: Bank>(
     requires buffer { 1048576 ≤ length buffer.old.items }
     requires standing { B.tells → (i : ℕ) → start ≤ i → i < length rows.now → AreStanding (reading_of members.old)
         (present (B.given bank.old) (B.tape bank.old)) shape.now (slice_index rows.now i) (buffered buffer.old.items i) }
-    ensures moved { IsMoved (B.given bank.old) members.old members.new }
-    ensures failed { HaveFailedSince members.old members.new result.spares (B.faults_of bank.old) (B.faults_of bank.new) }
+    ensures keeps { Keeps B.tells B.given B.tape B.faults_of bank.old bank.new members.old members.new result.spares }
     ensures refused { MatchOption result.refusal ⊤ (LacksTooMany shape.now members.new) }
-    ensures grows { Grows B.tells (B.tape bank.old) (B.tape bank.new) }
     ensures written { B.tells → AreRowsWritten shape.now first from.now rows.now start result.next members.new
         (present (B.given bank.old) (B.tape bank.old)) (present (B.given bank.old) (B.tape bank.new)) buffer.old.items buffer.new.items }
     ensures reached { start ≤ result.next }
@@ -138,15 +121,11 @@ fn put_stretch<B: Bank>(
     ensures further { result.refusal ≡ None → start < length rows.now → start < result.next }
     ensures clean { is_clean members.new.newest ≡ is_clean members.old.newest }
     ensures kept { AreWhole members.new → members.new ≡ members.old }
-    ensures unused { B.tells → IsUnusedKept members.old (disk (B.given bank.old).start (B.tape bank.old)) (disk (B.given bank.old).start (B.tape bank.new)) }
-    ensures rise { IsRisen B.tells members.old members.new (B.tape bank.old) (B.tape bank.new) }
     ensures safe { B.tells → (world : World) → (told : Ledger) → HasRoomLeft members.old (B.tape bank.old) (B.tape bank.new)
         → AreGoneTold told members.new → told.unclean ≡ true → is_clean members.old.newest ≡ false → IsOfRegion members.old shape.now (Contains rows.now) → (list list' : ℕ → Sector) → IsWritten list list' first from.now
         → (B.tells → AreDataFrom start shape.now list rows.now buffer.old.items) → AreWritesAllowed members.old told.values list'
         → (OpensFit world → IsTailZero members.old.newest list') → IsSafeOver world (B.given bank.old) told members.old (B.tape bank.old)
         → KeepsSafe world (B.given bank.old) told members.new (B.tape bank.old) (B.tape bank.new) }
-    ensures given { B.given bank.new ≡ B.given bank.old }
-    ensures counts { NeverFalls (B.faults_of bank.old) (B.faults_of bank.new) }
     ensures size { length buffer.new.items ≡ length buffer.old.items }
 {
     let Part { next, refusal } = write_stretch(
@@ -179,10 +158,7 @@ pub fn write_list_rows<B: Bank>(
     rows: &[u64],
     buffer: &mut Vec<u8>,
 ) -> Stretch
-    requires slots { (B.given bank.old).slots ≤ 32 }
-    requires placed { IsPlaced (B.given bank.old) members.old }
-    requires unlost { AreUnlost members.old }
-    requires free { AreSparesFree (B.given bank.old) members.old }
+    requires stands { Stands (B.given bank.old) members.old }
     requires shape { IsInForce members.old.newest shape.now }
     requires from { IsWhole from.now }
     requires short { first + length from.now / 512 < 2 ^ 63 }
@@ -192,25 +168,19 @@ pub fn write_list_rows<B: Bank>(
     requires buffer { 1048576 ≤ length buffer.old.items }
     requires standing { B.tells → (i : ℕ) → i < length rows.now → AreStanding (reading_of members.old)
         (present (B.given bank.old) (B.tape bank.old)) shape.now (slice_index rows.now i) (buffered buffer.old.items i) }
-    ensures moved { IsMoved (B.given bank.old) members.old members.new }
-    ensures failed { HaveFailedSince members.old members.new result.spares (B.faults_of bank.old) (B.faults_of bank.new) }
+    ensures keeps { Keeps B.tells B.given B.tape B.faults_of bank.old bank.new members.old members.new result.spares }
     ensures refused { MatchOption result.refusal ⊤ (LacksTooMany shape.now members.new) }
-    ensures grows { Grows B.tells (B.tape bank.old) (B.tape bank.new) }
     ensures written { B.tells → AreRowsWritten shape.now first from.now rows.now 0 result.next members.new
         (present (B.given bank.old) (B.tape bank.old)) (present (B.given bank.old) (B.tape bank.new)) buffer.old.items buffer.new.items }
     ensures within { result.next ≤ length rows.now }
     ensures done { result.refusal ≡ None → result.next ≡ length rows.now }
     ensures clean { is_clean members.new.newest ≡ is_clean members.old.newest }
     ensures kept { AreWhole members.new → members.new ≡ members.old }
-    ensures unused { B.tells → IsUnusedKept members.old (disk (B.given bank.old).start (B.tape bank.old)) (disk (B.given bank.old).start (B.tape bank.new)) }
-    ensures rise { IsRisen B.tells members.old members.new (B.tape bank.old) (B.tape bank.new) }
     ensures safe { B.tells → (world : World) → (told : Ledger) → HasRoomLeft members.old (B.tape bank.old) (B.tape bank.new)
         → AreGoneTold told members.new → told.unclean ≡ true → is_clean members.old.newest ≡ false → IsOfRegion members.old shape.now (Contains rows.now) → (list list' : ℕ → Sector) → IsWritten list list' first from.now
         → (B.tells → AreDataFrom 0 shape.now list rows.now buffer.old.items) → AreWritesAllowed members.old told.values list'
         → (OpensFit world → IsTailZero members.old.newest list') → IsSafeOver world (B.given bank.old) told members.old (B.tape bank.old)
         → KeepsSafe world (B.given bank.old) told members.new (B.tape bank.old) (B.tape bank.new) }
-    ensures given { B.given bank.new ≡ B.given bank.old }
-    ensures counts { NeverFalls (B.faults_of bank.old) (B.faults_of bank.new) }
     ensures size { length buffer.new.items ≡ length buffer.old.items }
 {
     let mut next = 0;
@@ -246,35 +216,26 @@ fn prepare<B: Bank>(
     buffer: &mut Vec<u8>,
     synced: bool,
 ) -> Prepared
-    requires slots { (B.given bank.old).slots ≤ 32 }
-    requires placed { IsPlaced (B.given bank.old) members.old }
-    requires unlost { AreUnlost members.old }
-    requires free { AreSparesFree (B.given bank.old) members.old }
+    requires stands { Stands (B.given bank.old) members.old }
     requires shape { IsInForce members.old.newest shape.now }
     requires few { count ≤ 128 }
     requires within { first + count ≤ data_disks shape.now * members.old.newest.size }
     requires short { first + count < 2 ^ 53 }
     requires rows { 128 ≤ vec_capacity rows.old }
     requires buffer { 1048576 ≤ length buffer.old.items }
-    ensures moved { IsMoved (B.given bank.old) members.old members.new }
-    ensures failed { HaveFailedSince members.old members.new result.spares (B.faults_of bank.old) (B.faults_of bank.new) }
+    ensures keeps { Keeps B.tells B.given B.tape B.faults_of bank.old bank.new members.old members.new result.spares }
     ensures refused { MatchOption result.refusal ⊤ (IsUnwritten shape.now synced members.new) }
     ensures first { MatchOption result.refusal ⊤ (λ refusal. write_refusal shape.now synced members.new ≡ Some refusal) }
-    ensures grows { Grows B.tells (B.tape bank.old) (B.tape bank.new) }
     ensures others { B.tells → AreOthersPresent (present (B.given bank.old) (B.tape bank.old)) (present (B.given bank.old) (B.tape bank.new)) }
-    ensures unused { B.tells → IsUnusedKept members.old (disk (B.given bank.old).start (B.tape bank.old)) (disk (B.given bank.old).start (B.tape bank.new)) }
     ensures read { result.refusal ≡ None → B.tells → AreRowsRead shape.now synced members.old members.new (present (B.given bank.old) (B.tape bank.old)) rows.new.items buffer.new.items }
     ensures dirty { result.refusal ≡ None → is_clean members.new.newest ≡ false }
     ensures stays { is_clean members.old.newest ≡ false → is_clean members.new.newest ≡ false }
     ensures touched { AreTouched shape.now first count rows.new.items }
     ensures below { (row : ℕ) → Contains rows.new.items row → row < members.new.newest.size }
     ensures few { length rows.new.items ≤ count }
-    ensures rise { IsRisen B.tells members.old members.new (B.tape bank.old) (B.tape bank.new) }
     ensures safe { B.tells → (world : World) → (told : Ledger) → HasRoomLeft members.old (B.tape bank.old) (B.tape bank.new)
         → AreGoneTold told members.new → told.unclean ≡ true → IsSafeOver world (B.given bank.old) told members.old (B.tape bank.old)
         → KeepsSafe world (B.given bank.old) told members.new (B.tape bank.old) (B.tape bank.new) }
-    ensures given { B.given bank.new ≡ B.given bank.old }
-    ensures counts { NeverFalls (B.faults_of bank.old) (B.faults_of bank.new) }
     ensures rows { vec_capacity rows.old ≤ vec_capacity rows.new }
     ensures buffer { length buffer.new.items ≡ length buffer.old.items }
 {
@@ -315,10 +276,7 @@ pub fn write_listed<B: Bank>(
     buffer: &mut Vec<u8>,
     synced: bool,
 ) -> Outcome
-    requires slots { (B.given bank.old).slots ≤ 32 }
-    requires placed { IsPlaced (B.given bank.old) members.old }
-    requires unlost { AreUnlost members.old }
-    requires free { AreSparesFree (B.given bank.old) members.old }
+    requires stands { Stands (B.given bank.old) members.old }
     requires shape { IsInForce members.old.newest shape.now }
     requires from { IsWhole from.now }
     requires few { count ≤ 128 }
@@ -327,12 +285,10 @@ pub fn write_listed<B: Bank>(
     requires short { first + count < 2 ^ 53 }
     requires rows { 128 ≤ vec_capacity rows.old }
     requires buffer { 1048576 ≤ length buffer.old.items }
-    ensures moved { IsMoved (B.given bank.old) members.old members.new }
-    ensures failed { HaveFailedSince members.old members.new result.spares (B.faults_of bank.old) (B.faults_of bank.new) }
+    ensures keeps { Keeps B.tells B.given B.tape B.faults_of bank.old bank.new members.old members.new result.spares }
     ensures refused { MatchOption result.refusal ⊤ (IsUnwritten shape.now synced members.new) }
     ensures first { MatchOption result.refusal ⊤ (λ refusal. write_refusal shape.now synced members.new ≡ Some refusal) }
     ensures torn { result.begun ≡ true → MatchOption result.refusal ⊤ (LacksTooMany shape.now members.new) }
-    ensures grows { Grows B.tells (B.tape bank.old) (B.tape bank.new) }
     ensures write_listed { result.refusal ≡ None → B.tells → (list list' : ℕ → Sector) → IsWritten list list' first from.now
         → DataStandsAmong shape.now (IsTouched shape.now first count) members.old (present (B.given bank.old) (B.tape bank.old)) list → DataStandsAmong shape.now (IsTouched shape.now first count) members.new (present (B.given bank.old) (B.tape bank.new)) list' }
     ensures others { B.tells → AreOtherRowsKept (IsTouched shape.now first count) (reading_of members.new) (present (B.given bank.old) (B.tape bank.old)) (present (B.given bank.old) (B.tape bank.new)) }
@@ -350,16 +306,12 @@ pub fn write_listed<B: Bank>(
     ensures dirty { result.refusal ≡ None → is_clean members.new.newest ≡ false }
     ensures stays { is_clean members.old.newest ≡ false → is_clean members.new.newest ≡ false }
     ensures untouched { result.begun ≡ false → B.tells → AreOthersPresent (present (B.given bank.old) (B.tape bank.old)) (present (B.given bank.old) (B.tape bank.new)) }
-    ensures unused { B.tells → IsUnusedKept members.old (disk (B.given bank.old).start (B.tape bank.old)) (disk (B.given bank.old).start (B.tape bank.new)) }
-    ensures rise { IsRisen B.tells members.old members.new (B.tape bank.old) (B.tape bank.new) }
     ensures safe { B.tells → (world : World) → (told : Ledger) → HasRoomLeft members.old (B.tape bank.old) (B.tape bank.new)
         → AreGoneTold told members.new → told.unclean ≡ true → (list list' : ℕ → Sector) → IsWritten list list' first from.now
         → DataStandsAmong shape.now (IsTouched shape.now first count) members.old (present (B.given bank.old) (B.tape bank.old)) list → (synced ≡ true → AreWhole members.new ⊎ RowsStandAmong shape.now (IsTouched shape.now first count) members.old (present (B.given bank.old) (B.tape bank.old)) list)
         → IsOfRegion members.old shape.now (IsTouched shape.now first count) → (result.begun ≡ true → AreWritesAllowed members.old told.values list')
         → (OpensFit world → IsTailZero members.old.newest list') → IsSafeOver world (B.given bank.old) told members.old (B.tape bank.old)
         → KeepsSafe world (B.given bank.old) told members.new (B.tape bank.old) (B.tape bank.new) }
-    ensures given { B.given bank.new ≡ B.given bank.old }
-    ensures counts { NeverFalls (B.faults_of bank.old) (B.faults_of bank.new) }
     ensures rows { vec_capacity rows.old ≤ vec_capacity rows.new }
     ensures buffer { length buffer.new.items ≡ length buffer.old.items }
 {

@@ -2,6 +2,7 @@ pub mod StretchLaws
 pub mod UnreadLaws
 pub mod StretchReads
 pub mod ChunkReads
+pub use Rattle.stripe_io.proofs.sb_safe_updates_FrameLaws
 pub use Rattle.stripe_io.proofs.UnusedReads as stripe_io_UnusedReads
 pub use Rattle.stripe_io.proofs.sb_safe_updates_RefusingLaws
 pub use Rattle.stripe_io.proofs.sb_safe_updates_Unused

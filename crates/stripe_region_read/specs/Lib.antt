@@ -1,4 +1,5 @@
 pub mod Stretches
+pub use Rattle.stripe_io.specs.sb_safe_updates_Frame
 pub use Rattle.stripe_io.specs.sb_safe_updates_First
 pub use Rattle.stripe_io.specs.sb_safe_updates_Unused
 pub use Rattle.stripe_io.specs.array_members_Placed

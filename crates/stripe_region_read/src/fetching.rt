@@ -2,7 +2,6 @@
 
 ghost use Rattle.std.specs.Prelude.{◌≡◌, ◌⊎◌, ◌+◌, ◌-◌, ◌/◌, ◌<◌, ◌≤◌, ℕ, length, None, MatchOption, Option, ⊤};
 ghost use Rattle.stripe_io.specs.bank_Given.{NeverFalls};
-ghost use Rattle.stripe_io.specs.bank_Tape.{disk};
 ghost use Rattle.stripe_io.specs.raid_types_Sectors.{Sector, IsWhole};
 ghost use Rattle.stripe_io.specs.raid_types_the_Span.{Span};
 ghost use Rattle.stripe_io.specs.raid_parity_Rows.{sector_of};
@@ -15,18 +14,17 @@ ghost use Rattle.stripe_io.specs.crash_views_Views.{Ledger};
 ghost use Rattle.stripe_io.specs.crash_views_Windows.{IsShown};
 ghost use Rattle.stripe_io.specs.crash_safety_laws_Steady.{AreUnlost, IsSafeOver, KeepsSafe, AreGoneTold, IsUncleanTold};
 ghost use Rattle.stripe_io.specs.crash_safety_laws_Marking.{AreOthersPresent};
-ghost use Rattle.stripe_io.specs.crash_safety_laws_Safety.{HasRoomLeft, IsRisen};
-ghost use Rattle.stripe_io.specs.sb_safe_updates_Unused.{IsUnusedKept};
+ghost use Rattle.stripe_io.specs.crash_safety_laws_Safety.{HasRoomLeft};
 ghost use Rattle.stripe_io.specs.array_members_Placed.{AreWhole, IsPlaced};
-ghost use Rattle.stripe_io.specs.array_members_Rebuilding.{AreSparesFree};
-ghost use Rattle.stripe_io.specs.array_members_Moving.{Grows, IsMoved};
+ghost use Rattle.stripe_io.specs.array_members_Moving.{IsMoved};
 ghost use Rattle.stripe_io.specs.array_members_Lacking.{HaveFailedSince, DoesWithout, LacksTooMany};
 ghost use Rattle.stripe_region_read.specs.Stretches.{IsShapeOf, ListStandsIn, RowsStandIn, IsLacked, IsListUnread};
+ghost use Rattle.stripe_io.specs.sb_safe_updates_Frame.{Stands, Keeps};
 
 use crate::chunks::{read_chunk, run_at};
 use crate::reading::Fetched;
 use crate::stretches::{relied_rows, stretch_at};
-use stripe_io::{Bank, Members, Refusal, first_read_refusal, record_missing, too_many_of};
+use stripe_io::{Bank, Members, Refusal, record_missing, too_many_of, first_read_refusal};
 
 // The refusal where more roles are missing than a shape tolerates that places one of these sectors: the first of them.
 fn too_many_in(members: &Members, from: u64, to: u64) -> Option<Refusal>
@@ -160,31 +158,22 @@ pub fn read_list<B: Bank>(
     scratch: &mut [u8],
     relied: u64,
 ) -> Fetched
-    requires slots { (B.given bank.old).slots ≤ 32 }
-    requires placed { IsPlaced (B.given bank.old) members.old }
-    requires unlost { AreUnlost members.old }
-    requires free { AreSparesFree (B.given bank.old) members.old }
+    requires stands { Stands (B.given bank.old) members.old }
     requires into { IsWhole into.old }
     requires within { first + length into.old / 512 ≤ list_length members.old.newest }
     requires scratch { 8192 ≤ length scratch.old }
-    ensures moved { IsMoved (B.given bank.old) members.old members.new }
-    ensures failed { HaveFailedSince members.old members.new result.spares (B.faults_of bank.old) (B.faults_of bank.new) }
+    ensures keeps { Keeps B.tells B.given B.tape B.faults_of bank.old bank.new members.old members.new result.spares }
     ensures refused { MatchOption result.refusal ⊤ (IsListUnread relied first (first + length into.old / 512) members.new) }
-    ensures grows { Grows B.tells (B.tape bank.old) (B.tape bank.new) }
     ensures others { B.tells → AreOthersPresent (present (B.given bank.old) (B.tape bank.old)) (present (B.given bank.old) (B.tape bank.new)) }
-    ensures unused { B.tells → IsUnusedKept members.old (disk (B.given bank.old).start (B.tape bank.old)) (disk (B.given bank.old).start (B.tape bank.new)) }
     ensures holds { result.refusal ≡ None → B.tells → (hidden : Option Span) → (list : ℕ → Sector) → ListStandsIn (IsShapeOf members.old.newest first (first + length into.old / 512)) hidden members.old (present (B.given bank.old) (B.tape bank.old)) list
         → AreWhole members.new ⊎ RowsStandIn (IsShapeOf members.old.newest first (first + length into.old / 512)) hidden relied members.old (present (B.given bank.old) (B.tape bank.old)) list
         → (i : ℕ) → i < length into.old / 512 → IsShown hidden members.old.newest (first + i) → sector_of into.new i ≡ list (first + i) }
     ensures clean { is_clean members.new.newest ≡ is_clean members.old.newest }
     ensures kept { AreWhole members.new → members.new ≡ members.old }
     ensures tape { AreWhole members.new → B.tells → B.tape bank.new ≡ B.tape bank.old }
-    ensures rise { IsRisen B.tells members.old members.new (B.tape bank.old) (B.tape bank.new) }
     ensures safe { B.tells → (world : World) → (told : Ledger) → HasRoomLeft members.old (B.tape bank.old) (B.tape bank.new)
         → AreGoneTold told members.new → IsUncleanTold told members.old → IsSafeOver world (B.given bank.old) told members.old (B.tape bank.old)
         → KeepsSafe world (B.given bank.old) told members.new (B.tape bank.old) (B.tape bank.new) }
-    ensures given { B.given bank.new ≡ B.given bank.old }
-    ensures counts { NeverFalls (B.faults_of bank.old) (B.faults_of bank.new) }
 {
     let refusal = read_regions(members, bank, first, into, scratch, relied);
     if refusal.is_some() {

@@ -1,26 +1,24 @@
 //! Reads of sectors that one shape places.
 
 ghost use Rattle.std.specs.Prelude.{◌≡◌, ◌⊎◌, ◌+◌, ◌*◌, ◌/◌, ◌^◌, ◌<◌, ◌≤◌, ℕ, length, None, Some, MatchOption, IsTrue, ⊤};
-ghost use Rattle.stripe_io.specs.bank_Given.{NeverFalls};
 ghost use Rattle.stripe_io.specs.raid_types_Sectors.{Sector, IsWhole};
 ghost use Rattle.stripe_io.specs.raid_types_Shapes.{is_multiple, data_disks};
 ghost use Rattle.stripe_io.specs.raid_parity_Rows.{sector_of};
 ghost use Rattle.stripe_io.specs.sb_specs_Reading.{is_clean};
 ghost use Rattle.stripe_io.specs.stripe_row_Rows.{present};
-ghost use Rattle.stripe_io.specs.array_members_Placed.{AreWhole, IsPlaced, IsInForce};
-ghost use Rattle.stripe_io.specs.crash_safety_laws_Steady.{AreUnlost, IsSafeOver, KeepsSafe, AreGoneTold, IsUncleanTold};
-ghost use Rattle.stripe_io.specs.array_members_Rebuilding.{AreSparesFree};
+ghost use Rattle.stripe_io.specs.array_members_Placed.{AreWhole, IsInForce};
+ghost use Rattle.stripe_io.specs.crash_safety_laws_Steady.{IsSafeOver, KeepsSafe, AreGoneTold, IsUncleanTold};
 ghost use Rattle.stripe_io.specs.crash_safety_laws_Marking.{AreOthersPresent};
-ghost use Rattle.stripe_io.specs.array_members_Moving.{Grows, IsMoved};
 ghost use Rattle.stripe_io.specs.stripe_list_Buffers.{IsTouched};
-ghost use Rattle.stripe_io.specs.array_members_Lacking.{HaveFailedSince, IsUnread, DataStandsAmong, RowsStandAmong};
+ghost use Rattle.stripe_io.specs.array_members_Lacking.{IsUnread, DataStandsAmong, RowsStandAmong};
 ghost use Rattle.stripe_io.specs.sb_safe_updates_First.{read_refusal};
 ghost use Rattle.stripe_io.specs.history_World.{World};
-ghost use Rattle.stripe_io.specs.crash_safety_laws_Safety.{HasRoomLeft, IsRisen};
+ghost use Rattle.stripe_io.specs.crash_safety_laws_Safety.{HasRoomLeft};
 ghost use Rattle.stripe_io.specs.crash_views_Views.{Ledger};
+ghost use Rattle.stripe_io.specs.sb_safe_updates_Frame.{Stands, Keeps};
 
 use stripe_io::fetching::read_parts;
-use stripe_io::{Bank, Members, Refusal, Shape, first_read_refusal, record_missing};
+use stripe_io::{Bank, Members, Refusal, Shape, record_missing, first_read_refusal};
 
 /// The spares that were lost in a read, and why it wasn't done.
 #[derive(Clone, Copy)]
@@ -40,10 +38,7 @@ pub fn read_listed<B: Bank>(
     scratch: &mut [u8],
     mended: u64,
 ) -> Fetched
-    requires slots { (B.given bank.old).slots ≤ 32 }
-    requires placed { IsPlaced (B.given bank.old) members.old }
-    requires unlost { AreUnlost members.old }
-    requires free { AreSparesFree (B.given bank.old) members.old }
+    requires stands { Stands (B.given bank.old) members.old }
     requires shape { IsInForce members.old.newest shape.now }
     requires into { IsWhole into.old }
     requires within { first + length into.old / 512 ≤ data_disks shape.now * members.old.newest.size }
@@ -51,11 +46,9 @@ pub fn read_listed<B: Bank>(
     requires scratch { 8192 ≤ length scratch.old }
     requires mended { mended ≤ members.old.newest.size }
     requires stripes { IsTrue (is_multiple mended shape.now.chunk) }
-    ensures moved { IsMoved (B.given bank.old) members.old members.new }
-    ensures failed { HaveFailedSince members.old members.new result.spares (B.faults_of bank.old) (B.faults_of bank.new) }
+    ensures keeps { Keeps B.tells B.given B.tape B.faults_of bank.old bank.new members.old members.new result.spares }
     ensures refused { MatchOption result.refusal ⊤ (IsUnread shape.now mended first (length into.old / 512) members.new) }
     ensures first { MatchOption result.refusal ⊤ (λ refusal. read_refusal shape.now mended first (length into.old / 512) members.new ≡ Some refusal) }
-    ensures grows { Grows B.tells (B.tape bank.old) (B.tape bank.new) }
     ensures others { B.tells → AreOthersPresent (present (B.given bank.old) (B.tape bank.old)) (present (B.given bank.old) (B.tape bank.new)) }
     ensures holds { result.refusal ≡ None → B.tells → (list : ℕ → Sector)
         → DataStandsAmong shape.now (IsTouched shape.now first (length into.old / 512)) members.old (present (B.given bank.old) (B.tape bank.old)) list
@@ -64,12 +57,9 @@ pub fn read_listed<B: Bank>(
     ensures clean { is_clean members.new.newest ≡ is_clean members.old.newest }
     ensures kept { AreWhole members.new → members.new ≡ members.old }
     ensures tape { AreWhole members.new → B.tells → B.tape bank.new ≡ B.tape bank.old }
-    ensures rise { IsRisen B.tells members.old members.new (B.tape bank.old) (B.tape bank.new) }
     ensures safe { B.tells → (world : World) → (told : Ledger) → HasRoomLeft members.old (B.tape bank.old) (B.tape bank.new)
         → AreGoneTold told members.new → IsUncleanTold told members.old → IsSafeOver world (B.given bank.old) told members.old (B.tape bank.old)
         → KeepsSafe world (B.given bank.old) told members.new (B.tape bank.old) (B.tape bank.new) }
-    ensures given { B.given bank.new ≡ B.given bank.old }
-    ensures counts { NeverFalls (B.faults_of bank.old) (B.faults_of bank.new) }
 {
     let count = (into.len() / 512) as u64;
     let read = read_parts(members, bank, shape, first, into, scratch, mended);

@@ -1,8 +1,6 @@
 //! A stripe of the list of an array in a reshape is mended.
 
 ghost use Rattle.std.specs.Prelude.{◌≡◌, ◌+◌, ◌<◌, ◌≤◌, ℕ, Bool, true, false, length, vec_capacity, None, Some, Option, MatchOption, ⊤};
-ghost use Rattle.reshape_request.specs.bank_Given.{NeverFalls};
-ghost use Rattle.reshape_request.specs.bank_Tape.{disk};
 ghost use Rattle.reshape_request.specs.raid_types_Sectors.{Sector};
 ghost use Rattle.reshape_request.specs.raid_types_the_Shape.{Shape};
 ghost use Rattle.reshape_request.specs.raid_types_the_Span.{Span};
@@ -16,19 +14,16 @@ ghost use Rattle.stripe_region_write.specs.history_World.{World};
 ghost use Rattle.stripe_region_write.specs.crash_views_Regions.{AreShapesFit, DoWithout};
 ghost use Rattle.stripe_region_write.specs.crash_views_Views.{IsTailZero, Ledger};
 ghost use Rattle.stripe_region_write.specs.crash_views_Windows.{IsShown, AreTailsStanding};
-ghost use Rattle.stripe_region_write.specs.crash_safety_laws_Steady.{AreUnlost, IsSafeOver, KeepsSafe, AreGoneTold, AreWritesAllowed};
-ghost use Rattle.stripe_region_write.specs.crash_safety_laws_Safety.{HasRoomLeft, IsRisen};
-ghost use Rattle.stripe_region_write.specs.array_members_Placed.{IsPlaced};
-ghost use Rattle.stripe_region_write.specs.array_members_Rebuilding.{AreSparesFree};
-ghost use Rattle.stripe_region_write.specs.array_members_Moving.{Grows, IsMoved};
-ghost use Rattle.stripe_region_write.specs.array_members_Lacking.{HaveFailedSince, DoesWithout, AreOtherRowsKept};
-ghost use Rattle.stripe_region_write.specs.sb_safe_updates_Unused.{IsUnusedKept};
+ghost use Rattle.stripe_region_write.specs.crash_safety_laws_Steady.{IsSafeOver, KeepsSafe, AreGoneTold, AreWritesAllowed};
+ghost use Rattle.stripe_region_write.specs.crash_safety_laws_Safety.{HasRoomLeft};
+ghost use Rattle.stripe_region_write.specs.array_members_Lacking.{DoesWithout, AreOtherRowsKept};
 ghost use Rattle.stripe_region_write.specs.stripe_region_read_Stretches.{ListStandsIn, RowsStandIn};
 ghost use Rattle.stripe_region_resync.specs.Mends.{low_shape, resync_stripes, relied_sector, resync_shape, IsResyncRow, ResyncStands, AreEndsStanding, lacking_or, refusal_of_resync, IsNotSynced};
+ghost use Rattle.stripe_region_write.specs.sb_safe_updates_Frame.{Stands, Keeps};
 
 use crate::stripes::stripe_after;
 use reshape_request::{Bank, Members, Refusal};
-use stripe_region_write::{Mended, first_write_refusal, resync_rows, too_many};
+use stripe_region_write::{Mended, resync_rows, too_many, first_write_refusal};
 
 // The refusal where more roles of a shape in force are missing than it tolerates, of the old one first, or else the one that was found.
 fn lacking_or(members: &Members, found: Option<Refusal>) -> Option<Refusal>
@@ -66,19 +61,14 @@ pub fn resync_list<B: Bank>(
     rows: &mut Vec<u64>,
     buffer: &mut Vec<u8>,
 ) -> Mended
-    requires slots { (B.given bank.old).slots ≤ 32 }
-    requires placed { IsPlaced (B.given bank.old) members.old }
-    requires unlost { AreUnlost members.old }
-    requires free { AreSparesFree (B.given bank.old) members.old }
+    requires stands { Stands (B.given bank.old) members.old }
     requires pending { mended < resync_stripes members.old.newest }
     requires dirty { is_clean members.old.newest ≡ false }
     requires rows { 128 ≤ vec_capacity rows.old }
     requires buffer { 1048576 ≤ length buffer.old.items }
-    ensures moved { IsMoved (B.given bank.old) members.old members.new }
-    ensures failed { HaveFailedSince members.old members.new result.spares (B.faults_of bank.old) (B.faults_of bank.new) }
+    ensures keeps { Keeps B.tells B.given B.tape B.faults_of bank.old bank.new members.old members.new result.spares }
     ensures refused { MatchOption result.refusal (DoWithout members.new) (IsNotSynced (resync_shape members.old.newest mended) members.new) }
     ensures first { MatchOption result.refusal ⊤ (λ refusal. refusal_of_resync (resync_shape members.old.newest mended) members.new ≡ Some refusal) }
-    ensures grows { Grows B.tells (B.tape bank.old) (B.tape bank.new) }
     ensures dirty { is_clean members.new.newest ≡ false }
     ensures mended { result.refusal ≡ None → B.tells → (among : Shape → Bool) → (hidden : Option Span) → (list : ℕ → Sector)
         → ((x : ℕ) → relied_sector members.old.newest (Some mended) ≤ x → x < relied_sector members.old.newest (Some (mended + 1)) → IsShown hidden members.old.newest x)
@@ -106,8 +96,6 @@ pub fn resync_list<B: Bank>(
         → (role slot row : ℕ) → role < (resync_shape members.old.newest mended).disks → role_state (reading_of members.new) role ≡ IsRecovering slot → IsResyncRow members.old.newest mended row
         → HasFull (reading_of members.old) (present (B.given bank.old) (B.tape bank.old)) (resync_shape members.old.newest mended) list row role slot → HasFull (reading_of members.new) (present (B.given bank.old) (B.tape bank.new)) (resync_shape members.old.newest mended) list row role slot }
     ensures others { B.tells → AreOtherRowsKept (IsResyncRow members.old.newest mended) (reading_of members.new) (present (B.given bank.old) (B.tape bank.old)) (present (B.given bank.old) (B.tape bank.new)) }
-    ensures unused { B.tells → IsUnusedKept members.old (disk (B.given bank.old).start (B.tape bank.old)) (disk (B.given bank.old).start (B.tape bank.new)) }
-    ensures rise { IsRisen B.tells members.old members.new (B.tape bank.old) (B.tape bank.new) }
     ensures safe { B.tells → (world : World) → (told : Ledger) → HasRoomLeft members.old (B.tape bank.old) (B.tape bank.new)
         → AreGoneTold told members.new → told.unclean ≡ true → (hidden : Option Span) → (list : ℕ → Sector)
         → ((x : ℕ) → relied_sector members.old.newest (Some mended) ≤ x → x < relied_sector members.old.newest (Some (mended + 1)) → IsShown hidden members.old.newest x)
@@ -120,8 +108,6 @@ pub fn resync_list<B: Bank>(
         → AreGoneTold told members.new → told.unclean ≡ true → (list : ℕ → Sector) → ResyncStands members.old.newest mended members.old (present (B.given bank.old) (B.tape bank.old)) list
         → AreWritesAllowed members.old told.values list → (OpensFit world → IsTailZero members.old.newest list) → IsSafeOver world (B.given bank.old) told members.old (B.tape bank.old)
         → KeepsSafe world (B.given bank.old) told members.new (B.tape bank.old) (B.tape bank.new) }
-    ensures given { B.given bank.new ≡ B.given bank.old }
-    ensures counts { NeverFalls (B.faults_of bank.old) (B.faults_of bank.new) }
     ensures rows { vec_capacity rows.old ≤ vec_capacity rows.new }
     ensures buffer { length buffer.new.items ≡ length buffer.old.items }
 {

@@ -6,6 +6,7 @@ pub mod LowRuns
 pub mod RunLists
 pub mod WriteLaws
 pub use Rattle.stripe_region_read.proofs.StretchLaws as stripe_region_read_StretchLaws
+pub use Rattle.stripe_region_read.proofs.sb_safe_updates_FrameLaws
 pub use Rattle.stripe_region_read.proofs.sb_safe_updates_RefusingLaws
 pub use Rattle.stripe_region_read.proofs.sb_safe_updates_Unused
 pub use Rattle.stripe_region_read.proofs.array_members_Fit

@@ -1,6 +1,7 @@
 pub mod Runs
 pub mod Ends
 pub use Rattle.stripe_region_read.specs.Stretches as stripe_region_read_Stretches
+pub use Rattle.stripe_region_read.specs.sb_safe_updates_Frame
 pub use Rattle.stripe_region_read.specs.sb_safe_updates_First
 pub use Rattle.stripe_region_read.specs.sb_safe_updates_Unused
 pub use Rattle.stripe_region_read.specs.array_members_Placed

@@ -2,7 +2,6 @@
 
 ghost use Rattle.std.specs.Prelude.{◌≡◌, ◌⊎◌, ◌+◌, ◌-◌, ◌/◌, ◌^◌, ◌<◌, ◌≤◌, ℕ, Bool, true, false, length, slice_index, Contains, vec_capacity, None, Option, MatchOption, ⊤};
 ghost use Rattle.stripe_region_read.specs.bank_Given.{NeverFalls};
-ghost use Rattle.stripe_region_read.specs.bank_Tape.{disk};
 ghost use Rattle.stripe_region_read.specs.raid_types_Sectors.{Sector, IsWhole};
 ghost use Rattle.stripe_region_read.specs.raid_types_the_Shape.{Shape};
 ghost use Rattle.stripe_region_read.specs.raid_types_the_Span.{Span};
@@ -18,21 +17,18 @@ ghost use Rattle.stripe_region_read.specs.crash_views_Views.{IsTailZero, Ledger}
 ghost use Rattle.stripe_region_read.specs.crash_views_Windows.{IsOfRegion, IsShown, ListStands, AreTailsStanding};
 ghost use Rattle.stripe_region_read.specs.crash_safety_laws_Steady.{AreUnlost, IsSafeOver, KeepsSafe, AreGoneTold, AreWritesAllowed};
 ghost use Rattle.stripe_region_read.specs.crash_safety_laws_Marking.{AreOthersPresent};
-ghost use Rattle.stripe_region_read.specs.crash_safety_laws_Safety.{HasRoomLeft, IsRisen};
+ghost use Rattle.stripe_region_read.specs.crash_safety_laws_Safety.{HasRoomLeft};
 ghost use Rattle.stripe_region_read.specs.array_members_Placed.{AreWhole, IsPlaced, IsInForce};
-ghost use Rattle.stripe_region_read.specs.array_members_Rebuilding.{AreSparesFree};
-ghost use Rattle.stripe_region_read.specs.array_members_Moving.{Grows, IsMoved};
+ghost use Rattle.stripe_region_read.specs.array_members_Moving.{IsMoved};
 ghost use Rattle.stripe_region_read.specs.array_members_Lacking.{HaveFailedSince, DoesWithout, LacksTooMany, AreOtherRowsKept, AreBytes, AreRowsRead};
 ghost use Rattle.stripe_region_read.specs.sb_safe_updates_First.{write_refusal};
-ghost use Rattle.stripe_region_read.specs.sb_safe_updates_Unused.{IsUnusedKept};
 ghost use Rattle.stripe_region_read.specs.Stretches.{RowsStandTo, IsShapeOf, ListStandsIn, RowsStandIn};
 ghost use Rattle.stripe_region_write.specs.Runs.{IsRun, AreRowsOf, AreFull, StayRebuilt, IsListTouched, IsTornTouched, MayBeHidden, WindowRowsStand, IsListTorn, IsListUnwritten, AreRunsTorn, AreRunsUnwritten};
 ghost use Rattle.stripe_region_write.specs.Ends.{AreEndsStanding};
+ghost use Rattle.stripe_region_read.specs.sb_safe_updates_Frame.{Stands, Keeps};
 
-use crate::runs::{Run, first_runs_refusal, runs_of, too_many_runs};
-use stripe_region_read::{
-    Bank, Members, Outcome, Refusal, Span, mark_dirty, read_touched, write_list_rows,
-};
+use crate::runs::{Run, runs_of, too_many_runs, first_runs_refusal};
+use stripe_region_read::{Bank, Members, Outcome, Refusal, Span, write_list_rows, mark_dirty, read_touched};
 
 // The spares that were lost, and why what was asked for wasn't done.
 #[derive(Clone, Copy)]
@@ -115,10 +111,7 @@ fn prepare_runs<B: Bank>(
     far_rows: &mut Vec<u64>,
     far_buffer: &mut Vec<u8>,
 ) -> Part
-    requires slots { (B.given bank.old).slots ≤ 32 }
-    requires placed { IsPlaced (B.given bank.old) members.old }
-    requires unlost { AreUnlost members.old }
-    requires free { AreSparesFree (B.given bank.old) members.old }
+    requires stands { Stands (B.given bank.old) members.old }
     requires low { IsRun members.old.newest low.now }
     requires high { IsRun members.old.newest high.now }
     requires low_few { low.now.end ≤ low.now.first + 128 }
@@ -127,12 +120,9 @@ fn prepare_runs<B: Bank>(
     requires far_rows { 128 ≤ vec_capacity far_rows.old }
     requires buffer { 1048576 ≤ length buffer.old.items }
     requires far_buffer { 1048576 ≤ length far_buffer.old.items }
-    ensures moved { IsMoved (B.given bank.old) members.old members.new }
-    ensures failed { HaveFailedSince members.old members.new result.spares (B.faults_of bank.old) (B.faults_of bank.new) }
+    ensures keeps { Keeps B.tells B.given B.tape B.faults_of bank.old bank.new members.old members.new result.spares }
     ensures refused { MatchOption result.refusal ⊤ (AreRunsUnwritten low.now high.now members.new) }
-    ensures grows { Grows B.tells (B.tape bank.old) (B.tape bank.new) }
     ensures others { B.tells → AreOthersPresent (present (B.given bank.old) (B.tape bank.old)) (present (B.given bank.old) (B.tape bank.new)) }
-    ensures unused { B.tells → IsUnusedKept members.old (disk (B.given bank.old).start (B.tape bank.old)) (disk (B.given bank.old).start (B.tape bank.new)) }
     ensures low { result.refusal ≡ None → B.tells → AreRowsRead low.now.shape low.now.synced members.old members.new (present (B.given bank.old) (B.tape bank.old)) rows.new.items buffer.new.items }
     ensures high { result.refusal ≡ None → B.tells → AreRowsRead high.now.shape high.now.synced members.old members.new (present (B.given bank.old) (B.tape bank.old)) far_rows.new.items far_buffer.new.items }
     ensures low_rows { result.refusal ≡ None → AreRowsOf low.now members.old.newest.size rows.new.items }
@@ -140,12 +130,9 @@ fn prepare_runs<B: Bank>(
     ensures does { result.refusal ≡ None → DoesWithout low.now.shape members.new × DoesWithout high.now.shape members.new }
     ensures dirty { result.refusal ≡ None → is_clean members.new.newest ≡ false }
     ensures stays { is_clean members.old.newest ≡ false → is_clean members.new.newest ≡ false }
-    ensures rise { IsRisen B.tells members.old members.new (B.tape bank.old) (B.tape bank.new) }
     ensures safe { B.tells → (world : World) → (told : Ledger) → HasRoomLeft members.old (B.tape bank.old) (B.tape bank.new)
         → AreGoneTold told members.new → told.unclean ≡ true → IsSafeOver world (B.given bank.old) told members.old (B.tape bank.old)
         → KeepsSafe world (B.given bank.old) told members.new (B.tape bank.old) (B.tape bank.new) }
-    ensures given { B.given bank.new ≡ B.given bank.old }
-    ensures counts { NeverFalls (B.faults_of bank.old) (B.faults_of bank.new) }
     ensures rows { vec_capacity rows.old ≤ vec_capacity rows.new }
     ensures far_rows { vec_capacity far_rows.old ≤ vec_capacity far_rows.new }
     ensures buffer { length buffer.new.items ≡ length buffer.old.items }
@@ -179,10 +166,7 @@ fn write_runs<B: Bank>(
     far_rows: &[u64],
     far_buffer: &mut Vec<u8>,
 ) -> Part
-    requires slots { (B.given bank.old).slots ≤ 32 }
-    requires placed { IsPlaced (B.given bank.old) members.old }
-    requires unlost { AreUnlost members.old }
-    requires free { AreSparesFree (B.given bank.old) members.old }
+    requires stands { Stands (B.given bank.old) members.old }
     requires low { IsInForce members.old.newest low.now.shape }
     requires high { IsInForce members.old.newest high.now.shape }
     requires from { IsWhole from.now }
@@ -196,19 +180,15 @@ fn write_runs<B: Bank>(
         (present (B.given bank.old) (B.tape bank.old)) low.now.shape (slice_index rows.now i) (buffered buffer.old.items i) }
     requires high_standing { B.tells → (i : ℕ) → i < length far_rows.now → AreStanding (reading_of members.old)
         (present (B.given bank.old) (B.tape bank.old)) high.now.shape (slice_index far_rows.now i) (buffered far_buffer.old.items i) }
-    ensures moved { IsMoved (B.given bank.old) members.old members.new }
-    ensures failed { HaveFailedSince members.old members.new result.spares (B.faults_of bank.old) (B.faults_of bank.new) }
+    ensures keeps { Keeps B.tells B.given B.tape B.faults_of bank.old bank.new members.old members.new result.spares }
     ensures refused { MatchOption result.refusal ⊤ (AreRunsTorn low.now high.now members.new) }
     ensures torn { MatchOption result.refusal ⊤ (λ refusal. LacksTooMany high.now.shape members.new refusal ⊎ (LacksTooMany low.now.shape members.new refusal
         × (B.tells → AreOtherRowsKept (Contains rows.now) (reading_of members.new) (present (B.given bank.old) (B.tape bank.old)) (present (B.given bank.old) (B.tape bank.new))))) }
-    ensures grows { Grows B.tells (B.tape bank.old) (B.tape bank.new) }
     ensures low { result.refusal ≡ None → B.tells → AreFull members.new (present (B.given bank.old) (B.tape bank.new)) low.now.shape first from.now rows.now buffer.old.items }
     ensures high { result.refusal ≡ None → B.tells → AreFull members.new (present (B.given bank.old) (B.tape bank.new)) high.now.shape first from.now far_rows.now far_buffer.old.items }
     ensures rebuilt { result.refusal ≡ None → B.tells → StayRebuilt members.new (present (B.given bank.old) (B.tape bank.old)) (present (B.given bank.old) (B.tape bank.new)) low.now.shape first from.now rows.now buffer.old.items }
     ensures others { B.tells → AreOtherRowsKept (λ row. Contains rows.now row ⊎ Contains far_rows.now row) (reading_of members.new) (present (B.given bank.old) (B.tape bank.old)) (present (B.given bank.old) (B.tape bank.new)) }
-    ensures unused { B.tells → IsUnusedKept members.old (disk (B.given bank.old).start (B.tape bank.old)) (disk (B.given bank.old).start (B.tape bank.new)) }
     ensures clean { is_clean members.new.newest ≡ is_clean members.old.newest }
-    ensures rise { IsRisen B.tells members.old members.new (B.tape bank.old) (B.tape bank.new) }
     ensures safe { B.tells → (world : World) → (told : Ledger) → HasRoomLeft members.old (B.tape bank.old) (B.tape bank.new)
         → AreGoneTold told members.new → told.unclean ≡ true → is_clean members.old.newest ≡ false
         → IsOfRegion members.old low.now.shape (Contains rows.now) → IsOfRegion members.old high.now.shape (Contains far_rows.now)
@@ -217,8 +197,6 @@ fn write_runs<B: Bank>(
         → AreWritesAllowed members.old told.values low_list' → AreWritesAllowed members.old told.values high_list'
         → (OpensFit world → IsTailZero members.old.newest low_list') → (OpensFit world → IsTailZero members.old.newest high_list') → IsSafeOver world (B.given bank.old) told members.old (B.tape bank.old)
         → KeepsSafe world (B.given bank.old) told members.new (B.tape bank.old) (B.tape bank.new) }
-    ensures given { B.given bank.new ≡ B.given bank.old }
-    ensures counts { NeverFalls (B.faults_of bank.old) (B.faults_of bank.new) }
     ensures buffer { length buffer.new.items ≡ length buffer.old.items }
     ensures far_buffer { length far_buffer.new.items ≡ length far_buffer.old.items }
 {
@@ -262,10 +240,7 @@ pub fn write_list<B: Bank>(
     window: Option<Span>,
     relied: u64,
 ) -> Outcome
-    requires slots { (B.given bank.old).slots ≤ 32 }
-    requires placed { IsPlaced (B.given bank.old) members.old }
-    requires unlost { AreUnlost members.old }
-    requires free { AreSparesFree (B.given bank.old) members.old }
+    requires stands { Stands (B.given bank.old) members.old }
     requires from { IsWhole from.now }
     requires some { 0 < length from.now / 512 }
     requires few { length from.now / 512 ≤ 128 }
@@ -274,14 +249,12 @@ pub fn write_list<B: Bank>(
     requires far_rows { 128 ≤ vec_capacity far_rows.old }
     requires buffer { 1048576 ≤ length buffer.old.items }
     requires far_buffer { 1048576 ≤ length far_buffer.old.items }
-    ensures moved { IsMoved (B.given bank.old) members.old members.new }
-    ensures failed { HaveFailedSince members.old members.new result.spares (B.faults_of bank.old) (B.faults_of bank.new) }
+    ensures keeps { Keeps B.tells B.given B.tape B.faults_of bank.old bank.new members.old members.new result.spares }
     ensures refused { MatchOption result.refusal ⊤ (IsListUnwritten window relied first (first + length from.now / 512) members.new) }
     ensures begun { result.begun ≡ true → (x : ℕ) → first ≤ x → x < first + length from.now / 512 → DoesWithout (shape_for members.old.newest x) members.old }
     ensures torn { result.begun ≡ true → MatchOption result.refusal ⊤ (IsListTorn first (first + length from.now / 512) members.new) }
     ensures torn_rows { MatchOption result.refusal ⊤ (λ refusal. B.tells → AreOtherRowsKept (IsTornTouched members.old.newest first (first + length from.now / 512) members.new) (reading_of members.new)
         (present (B.given bank.old) (B.tape bank.old)) (present (B.given bank.old) (B.tape bank.new))) }
-    ensures grows { Grows B.tells (B.tape bank.old) (B.tape bank.new) }
     ensures write_listed { result.refusal ≡ None → B.tells → (among : Shape → Bool) → (hidden : Option Span) → (list list' : ℕ → Sector) → IsWritten list list' first from.now
         → ListStandsIn (λ s. among s ≡ true) hidden members.old (present (B.given bank.old) (B.tape bank.old)) list
         → ListStandsIn (λ s. among s ≡ true) hidden members.new (present (B.given bank.old) (B.tape bank.new)) list' }
@@ -290,7 +263,6 @@ pub fn write_list<B: Bank>(
     ensures ends { result.refusal ≡ None → B.tells → (list list' : ℕ → Sector) → IsWritten list list' first from.now
         → AreEndsStanding members.old (present (B.given bank.old) (B.tape bank.old)) list → AreEndsStanding members.new (present (B.given bank.old) (B.tape bank.new)) list' }
     ensures others { B.tells → AreOtherRowsKept (IsListTouched members.old.newest first (first + length from.now / 512)) (reading_of members.new) (present (B.given bank.old) (B.tape bank.old)) (present (B.given bank.old) (B.tape bank.new)) }
-    ensures unused { B.tells → IsUnusedKept members.old (disk (B.given bank.old).start (B.tape bank.old)) (disk (B.given bank.old).start (B.tape bank.new)) }
     ensures good { result.refusal ≡ None → B.tells → (among : Shape → Bool) → (hidden : Option Span) → (list list' : ℕ → Sector) → IsWritten list list' first from.now → AreBytes from.now
         → ((x : ℕ) → first ≤ x → x < first + length from.now / 512 → IsShown hidden members.old.newest x)
         → WindowRowsStand window members.old (present (B.given bank.old) (B.tape bank.old)) list → (bound : ℕ) → relied ≤ bound
@@ -305,7 +277,6 @@ pub fn write_list<B: Bank>(
     ensures dirty { result.refusal ≡ None → is_clean members.new.newest ≡ false }
     ensures stays { is_clean members.old.newest ≡ false → is_clean members.new.newest ≡ false }
     ensures untouched { result.begun ≡ false → B.tells → AreOthersPresent (present (B.given bank.old) (B.tape bank.old)) (present (B.given bank.old) (B.tape bank.new)) }
-    ensures rise { IsRisen B.tells members.old members.new (B.tape bank.old) (B.tape bank.new) }
     ensures safe { B.tells → (world : World) → (told : Ledger) → HasRoomLeft members.old (B.tape bank.old) (B.tape bank.new)
         → AreGoneTold told members.new → told.unclean ≡ true → (hidden : Option Span) → MayBeHidden members.old.newest hidden → (list list' : ℕ → Sector) → IsWritten list list' first from.now
         → ((x : ℕ) → first ≤ x → x < first + length from.now / 512 → IsShown hidden members.old.newest x)
@@ -316,8 +287,6 @@ pub fn write_list<B: Bank>(
         → (result.begun ≡ true → AreWritesAllowed members.old told.values list') → (OpensFit world → IsTailZero members.old.newest list)
         → IsSafeOver world (B.given bank.old) told members.old (B.tape bank.old)
         → KeepsSafe world (B.given bank.old) told members.new (B.tape bank.old) (B.tape bank.new) }
-    ensures given { B.given bank.new ≡ B.given bank.old }
-    ensures counts { NeverFalls (B.faults_of bank.old) (B.faults_of bank.new) }
     ensures rows { vec_capacity rows.old ≤ vec_capacity rows.new }
     ensures far_rows { vec_capacity far_rows.old ≤ vec_capacity far_rows.new }
     ensures buffer { length buffer.new.items ≡ length buffer.old.items }

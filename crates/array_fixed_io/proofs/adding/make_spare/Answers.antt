@@ -140,8 +140,13 @@ spare_for-sb-requires-clause-free g c =
     let free = is-free a.members.newest a.work c.args.number known in
     free.2
 
-pub add_member-lost-requires-clause-free : goal.add_member-lost-requires-clause-free
-add_member-lost-requires-clause-free g c = subst (λ (b : Given). AreSparesFree b c.still.inside.members) (sym c.look_at.ensures.given) c.still.invariant.kept.members_are.free
+pub add_member-lost-requires-clause-stands : goal.add_member-lost-requires-clause-stands
+add_member-lost-requires-clause-stands g c = record {
+  slots = subst (λ (b : Given). b.slots ≤ 32) (sym c.look_at.ensures.given) c.still.invariant.kept.slots;
+  placed = subst (λ (b : Given). IsPlaced b c.still.inside.members) (sym c.look_at.ensures.given) c.still.invariant.kept.members_are.placed;
+  unlost = c.still.invariant.kept.members_are.unlost;
+  free = subst (λ (b : Given). AreSparesFree b c.still.inside.members) (sym c.look_at.ensures.given) c.still.invariant.kept.members_are.free;
+}
 
 pub add_member-lost-requires-clause-slot : goal.add_member-lost-requires-clause-slot
 add_member-lost-requires-clause-slot g c =
@@ -154,6 +159,7 @@ add_member-lost-requires-clause-untaken g c =
     λ role may. slot-free (g.B.Bank.given c.still.inside.bank) c.still.inside.backup c.args.slot c.still.inside.members c.still.invariant.kept.members_are.placed addable (inr (role, may))
 
 -- a slot that was lost didn't fail: then nothing that is missing is named
+
 pub add_member-lost-requires-clause-fresh : goal.add_member-lost-requires-clause-fresh
 add_member-lost-requires-clause-fresh g c = λ lost.
     subst (λ v. has_slot v.parts.members.lost c.args.slot ≡ true → g.B.Bank.faults_of v.parts.bank c.args.slot ≡ 0 → AreUnnamed v.parts.members) (sym c.still.view_is) c.requires.fresh lost c.in-Some.ensures.sound
@@ -201,7 +207,7 @@ invariant_of-still-then-contains g c =
     let e = c.add_member-lost.ensures in
     let look = c.look_at.ensures in
     let did = add-done look.given was.kept.slots here.placed here.unlost here.free (slot-there given a.backup c.args.slot a.members here.placed addable)
-    (λ role may. slot-free given a.backup c.args.slot a.members here.placed addable (inr (role, may))) look.counts c.spare_for-sb.ensures.made e.own e.moved e.failed e.lost e.grows e.others e.clean e.rise e.counts in
+    (λ role may. slot-free given a.backup c.args.slot a.members here.placed addable (inr (role, may))) look.counts c.spare_for-sb.ensures.made e.own e.keeps.moved e.keeps.failed e.lost e.keeps.bank.grows e.others e.clean e.keeps.rise e.keeps.bank.counts in
     let since = since-added did c.shape_in-disks.result.disks c.unassigned_roles-before.result c.newly_unassigned-roles.result c.without-spares.result (ap (λ (s : Shape). s.disks) c.shape_in-disks.ensures ∙ sym (count-still a.members.newest here.still))
     c.unassigned_roles-before.ensures c.newly_unassigned-roles.ensures
     (others-lost c.args.slot c.add_member-lost.result c.with.result c.without-spares.result c.with.ensures c.without-spares.ensures (omega (arith, c.without-spares.type_inv))) in
@@ -212,7 +218,7 @@ invariant_of-still-then-contains g c =
     let sb = c.spare_for-sb.result in
     let tape = g.B.Bank.tape c.look_at.new.bank in
     let tape' = g.B.Bank.tape c.add_member-lost.new.bank in
-    let given_is = e.given ∙ look.given in
+    let given_is = e.keeps.bank.same ∙ look.given in
     let safe = subst (λ (b : Given). AddsSafe g.B.Bank.tells b c.args.slot sb a.members m tape tape') look.given e.safe in
     let kept = subst (λ (n : ℕ). IsStill g.B.Bank.tells given tape' (scope_in given a.epoch.uuid a.epoch.given a.backup) a.epoch.first (a.epoch.entries.items ++ entries_of c.args.who end (losses_of roles spares ++ Refused (SlotFault c.args.slot) ∷ []))
     m (bearing false c.args.slot n a.work) (still_left (bearing false c.args.slot n a.work) m a.ahead)) c.spare_for-sb.ensures.number
@@ -244,7 +250,7 @@ returns-then-contains-clause-caused g c =
     let e = c.add_member-lost.ensures in
     let look = c.look_at.ensures in
     let did = add-done look.given was.kept.slots here.placed here.unlost here.free (slot-there given a.backup c.args.slot a.members here.placed addable)
-    (λ role may. slot-free given a.backup c.args.slot a.members here.placed addable (inr (role, may))) look.counts c.spare_for-sb.ensures.made e.own e.moved e.failed e.lost e.grows e.others e.clean e.rise e.counts in
+    (λ role may. slot-free given a.backup c.args.slot a.members here.placed addable (inr (role, may))) look.counts c.spare_for-sb.ensures.made e.own e.keeps.moved e.keeps.failed e.lost e.keeps.bank.grows e.others e.clean e.keeps.rise e.keeps.bank.counts in
     let gone = sym c.contains.ensures ∙ c.if-contains.true in
     rw (← c.still.view_is) (refl, addable, did.failed.spares_are c.args.slot gone, e.lost gone)
 
@@ -258,7 +264,7 @@ returns-then-contains-clause-spares g c =
     let e = c.add_member-lost.ensures in
     let look = c.look_at.ensures in
     let did = add-done look.given was.kept.slots here.placed here.unlost here.free (slot-there given a.backup c.args.slot a.members here.placed addable)
-    (λ role may. slot-free given a.backup c.args.slot a.members here.placed addable (inr (role, may))) look.counts c.spare_for-sb.ensures.made e.own e.moved e.failed e.lost e.grows e.others e.clean e.rise e.counts in
+    (λ role may. slot-free given a.backup c.args.slot a.members here.placed addable (inr (role, may))) look.counts c.spare_for-sb.ensures.made e.own e.keeps.moved e.keeps.failed e.lost e.keeps.bank.grows e.others e.clean e.keeps.rise e.keeps.bank.counts in
     rw (← c.still.view_is) (spares-added did)
 
 pub returns-then-contains-clause-stepped : goal.returns-then-contains-clause-stepped
@@ -271,7 +277,7 @@ returns-then-contains-clause-stepped g c =
     let e = c.add_member-lost.ensures in
     let look = c.look_at.ensures in
     let did = add-done look.given was.kept.slots here.placed here.unlost here.free (slot-there given a.backup c.args.slot a.members here.placed addable)
-    (λ role may. slot-free given a.backup c.args.slot a.members here.placed addable (inr (role, may))) look.counts c.spare_for-sb.ensures.made e.own e.moved e.failed e.lost e.grows e.others e.clean e.rise e.counts in
+    (λ role may. slot-free given a.backup c.args.slot a.members here.placed addable (inr (role, may))) look.counts c.spare_for-sb.ensures.made e.own e.keeps.moved e.keeps.failed e.lost e.keeps.bank.grows e.others e.clean e.keeps.rise e.keeps.bank.counts in
     let since = since-added did c.shape_in-disks.result.disks c.unassigned_roles-before.result c.newly_unassigned-roles.result c.without-spares.result (ap (λ (s : Shape). s.disks) c.shape_in-disks.ensures ∙ sym (count-still a.members.newest here.still))
     c.unassigned_roles-before.ensures c.newly_unassigned-roles.ensures
     (others-lost c.args.slot c.add_member-lost.result c.with.result c.without-spares.result c.with.ensures c.without-spares.ensures (omega (arith, c.without-spares.type_inv))) in
@@ -280,7 +286,7 @@ returns-then-contains-clause-stepped g c =
     let end = c.ops-end-2.result in
     let m = c.add_member-lost.new.members in
     let looked = look.tape in
-    rw (← c.still.view_is) (stepped (grows-then (record { more = λ t. ((looked t).0, (looked t).2) }) e.grows) (shapes-moved did.moved)
+    rw (← c.still.view_is) (stepped (grows-then (record { more = λ t. ((looked t).0, (looked t).2) }) e.keeps.bank.grows) (shapes-moved did.moved)
     (ended-behind (g.B.Bank.tape c.add_member-lost.new.bank) c.append_after_losses.new.epoch.first c.make_room.new.self.items c.args.who end (losses_of roles spares) (Refused (SlotFault c.args.slot)) c.append_after_losses.ensures.items c.ops-end-2.ensures.count)
     did.failed.roles
     (losses-behind a.members m (g.B.Bank.faults_of a.bank) (g.B.Bank.faults_of c.add_member-lost.new.bank) a.epoch.entries.items c.make_room.new.self.items c.append_after_losses.new.epoch.entries.items c.args.who end roles spares
@@ -304,7 +310,7 @@ invariant_of-still-2 g c =
     let e = c.add_member-lost.ensures in
     let look = c.look_at.ensures in
     let did = add-done look.given was.kept.slots here.placed here.unlost here.free (slot-there given a.backup c.args.slot a.members here.placed addable)
-    (λ role may. slot-free given a.backup c.args.slot a.members here.placed addable (inr (role, may))) look.counts c.spare_for-sb.ensures.made e.own e.moved e.failed e.lost e.grows e.others e.clean e.rise e.counts in
+    (λ role may. slot-free given a.backup c.args.slot a.members here.placed addable (inr (role, may))) look.counts c.spare_for-sb.ensures.made e.own e.keeps.moved e.keeps.failed e.lost e.keeps.bank.grows e.others e.clean e.keeps.rise e.keeps.bank.counts in
     let since = since-added did c.shape_in-disks.result.disks c.unassigned_roles-before.result c.newly_unassigned-roles.result c.without-spares.result (ap (λ (s : Shape). s.disks) c.shape_in-disks.ensures ∙ sym (count-still a.members.newest here.still))
     c.unassigned_roles-before.ensures c.newly_unassigned-roles.ensures
     (others-lost c.args.slot c.add_member-lost.result c.with.result c.without-spares.result c.with.ensures c.without-spares.ensures (omega (arith, c.without-spares.type_inv))) in
@@ -315,7 +321,7 @@ invariant_of-still-2 g c =
     let sb = c.spare_for-sb.result in
     let tape = g.B.Bank.tape c.look_at.new.bank in
     let tape' = g.B.Bank.tape c.add_member-lost.new.bank in
-    let given_is = e.given ∙ look.given in
+    let given_is = e.keeps.bank.same ∙ look.given in
     let safe = subst (λ (b : Given). AddsSafe g.B.Bank.tells b c.args.slot sb a.members m tape tape') look.given e.safe in
     let kept = subst (λ (n : ℕ). IsStill g.B.Bank.tells given tape' (scope_in given a.epoch.uuid a.epoch.given a.backup) a.epoch.first (a.epoch.entries.items ++ entries_of c.args.who end (losses_of roles spares ++ Added c.args.slot ∷ []))
     m (bearing true c.args.slot n a.work) (still_left (bearing true c.args.slot n a.work) m a.ahead)) c.spare_for-sb.ensures.number
@@ -354,7 +360,7 @@ returns-clause-spares g c =
     let e = c.add_member-lost.ensures in
     let look = c.look_at.ensures in
     let did = add-done look.given was.kept.slots here.placed here.unlost here.free (slot-there given a.backup c.args.slot a.members here.placed addable)
-    (λ role may. slot-free given a.backup c.args.slot a.members here.placed addable (inr (role, may))) look.counts c.spare_for-sb.ensures.made e.own e.moved e.failed e.lost e.grows e.others e.clean e.rise e.counts in
+    (λ role may. slot-free given a.backup c.args.slot a.members here.placed addable (inr (role, may))) look.counts c.spare_for-sb.ensures.made e.own e.keeps.moved e.keeps.failed e.lost e.keeps.bank.grows e.others e.clean e.keeps.rise e.keeps.bank.counts in
     rw (← c.still.view_is) (spares-added did)
 
 pub returns-clause-stepped : goal.returns-clause-stepped
@@ -367,7 +373,7 @@ returns-clause-stepped g c =
     let e = c.add_member-lost.ensures in
     let look = c.look_at.ensures in
     let did = add-done look.given was.kept.slots here.placed here.unlost here.free (slot-there given a.backup c.args.slot a.members here.placed addable)
-    (λ role may. slot-free given a.backup c.args.slot a.members here.placed addable (inr (role, may))) look.counts c.spare_for-sb.ensures.made e.own e.moved e.failed e.lost e.grows e.others e.clean e.rise e.counts in
+    (λ role may. slot-free given a.backup c.args.slot a.members here.placed addable (inr (role, may))) look.counts c.spare_for-sb.ensures.made e.own e.keeps.moved e.keeps.failed e.lost e.keeps.bank.grows e.others e.clean e.keeps.rise e.keeps.bank.counts in
     let since = since-added did c.shape_in-disks.result.disks c.unassigned_roles-before.result c.newly_unassigned-roles.result c.without-spares.result (ap (λ (s : Shape). s.disks) c.shape_in-disks.ensures ∙ sym (count-still a.members.newest here.still))
     c.unassigned_roles-before.ensures c.newly_unassigned-roles.ensures
     (others-lost c.args.slot c.add_member-lost.result c.with.result c.without-spares.result c.with.ensures c.without-spares.ensures (omega (arith, c.without-spares.type_inv))) in
@@ -376,7 +382,7 @@ returns-clause-stepped g c =
     let end = c.ops-end-2.result in
     let m = c.add_member-lost.new.members in
     let looked = look.tape in
-    rw (← c.still.view_is) (stepped (grows-then (record { more = λ t. ((looked t).0, (looked t).2) }) e.grows) (shapes-moved did.moved)
+    rw (← c.still.view_is) (stepped (grows-then (record { more = λ t. ((looked t).0, (looked t).2) }) e.keeps.bank.grows) (shapes-moved did.moved)
     (ended-behind (g.B.Bank.tape c.add_member-lost.new.bank) c.append_after_losses-2.new.epoch.first c.make_room.new.self.items c.args.who end (losses_of roles spares) (Added c.args.slot) c.append_after_losses-2.ensures.items c.ops-end-2.ensures.count)
     did.failed.roles
     (losses-behind a.members m (g.B.Bank.faults_of a.bank) (g.B.Bank.faults_of c.add_member-lost.new.bank) a.epoch.entries.items c.make_room.new.self.items c.append_after_losses-2.new.epoch.entries.items c.args.who end roles spares
@@ -460,21 +466,12 @@ unassigned_roles-before-requires-clause-known g c = shape-known (g.B.Bank.given 
 pub unassigned_roles-before-requires-clause-few : goal.unassigned_roles-before-requires-clause-few
 unassigned_roles-before-requires-clause-few g c = shape-few (g.B.Bank.given c.still.inside.bank) c.still.inside.members c.still.invariant.kept.members_are.placed c.shape_in-disks.result c.shape_in-disks.ensures
 
-pub add_member-lost-requires-clause-slots : goal.add_member-lost-requires-clause-slots
-add_member-lost-requires-clause-slots g c = subst (λ (b : Given). b.slots ≤ 32) (sym c.look_at.ensures.given) c.still.invariant.kept.slots
-
-pub add_member-lost-requires-clause-placed : goal.add_member-lost-requires-clause-placed
-add_member-lost-requires-clause-placed g c = subst (λ (b : Given). IsPlaced b c.still.inside.members) (sym c.look_at.ensures.given) c.still.invariant.kept.members_are.placed
-
-pub add_member-lost-requires-clause-unlost : goal.add_member-lost-requires-clause-unlost
-add_member-lost-requires-clause-unlost g c = c.still.invariant.kept.members_are.unlost
-
 pub add_member-lost-requires-clause-made : goal.add_member-lost-requires-clause-made
 add_member-lost-requires-clause-made g c = c.spare_for-sb.ensures.made
 
 pub newly_unassigned-roles-requires-clause-known : goal.newly_unassigned-roles-requires-clause-known
 newly_unassigned-roles-requires-clause-known g c =
-    let moved = c.add_member-lost.ensures.moved in
+    let moved = c.add_member-lost.ensures.keeps.moved in
     shape-known (g.B.Bank.given c.look_at.new.bank) c.add_member-lost.new.members moved.placed c.shape_in-disks.result (c.shape_in-disks.ensures ∙ sym moved.shape)
 
 pub newly_unassigned-roles-requires-clause-few : goal.newly_unassigned-roles-requires-clause-few
@@ -490,7 +487,7 @@ pub returns-then-contains-clause-clean : goal.returns-then-contains-clause-clean
 returns-then-contains-clause-clean g c = c.add_member-lost.ensures.clean ∙ ap (λ p. is_clean p.parts.members.newest) c.still.view_is
 
 pub returns-then-contains-clause-given : goal.returns-then-contains-clause-given
-returns-then-contains-clause-given g c = c.add_member-lost.ensures.given ∙ c.look_at.ensures.given ∙ ap (λ p. g.B.Bank.given p.parts.bank) c.still.view_is
+returns-then-contains-clause-given g c = c.add_member-lost.ensures.keeps.bank.same ∙ c.look_at.ensures.given ∙ ap (λ p. g.B.Bank.given p.parts.bank) c.still.view_is
 
 pub append_after_losses-requires-2-clause-room : goal.append_after_losses-requires-2-clause-room
 append_after_losses-requires-2-clause-room g c = room-49 c.make_room.new.self.room c.in-Ok.ensures.ok
@@ -505,21 +502,21 @@ pub returns-clause-clean : goal.returns-clause-clean
 returns-clause-clean g c = c.add_member-lost.ensures.clean ∙ ap (λ p. is_clean p.parts.members.newest) c.still.view_is
 
 pub returns-clause-given : goal.returns-clause-given
-returns-clause-given g c = c.add_member-lost.ensures.given ∙ c.look_at.ensures.given ∙ ap (λ p. g.B.Bank.given p.parts.bank) c.still.view_is
+returns-clause-given g c = c.add_member-lost.ensures.keeps.bank.same ∙ c.look_at.ensures.given ∙ ap (λ p. g.B.Bank.given p.parts.bank) c.still.view_is
 
 -- ---- what it leaves of the members
 
 pub returns-then-contains-clause-held : goal.returns-then-contains-clause-held
-returns-then-contains-clause-held g c = subst (λ p. AreStillHeld p.parts.members c.add_member-lost.new.members) c.still.view_is c.add_member-lost.ensures.moved.held
+returns-then-contains-clause-held g c = subst (λ p. AreStillHeld p.parts.members c.add_member-lost.new.members) c.still.view_is c.add_member-lost.ensures.keeps.moved.held
 
 pub returns-then-contains-clause-whole : goal.returns-then-contains-clause-whole
-returns-then-contains-clause-whole g c = subst (λ p. AreWhole c.add_member-lost.new.members → AreWhole p.parts.members) c.still.view_is c.add_member-lost.ensures.moved.whole
+returns-then-contains-clause-whole g c = subst (λ p. AreWhole c.add_member-lost.new.members → AreWhole p.parts.members) c.still.view_is c.add_member-lost.ensures.keeps.moved.whole
 
 pub returns-clause-held : goal.returns-clause-held
-returns-clause-held g c = subst (λ p. AreStillHeld p.parts.members c.add_member-lost.new.members) c.still.view_is c.add_member-lost.ensures.moved.held
+returns-clause-held g c = subst (λ p. AreStillHeld p.parts.members c.add_member-lost.new.members) c.still.view_is c.add_member-lost.ensures.keeps.moved.held
 
 pub returns-clause-whole : goal.returns-clause-whole
-returns-clause-whole g c = subst (λ p. AreWhole c.add_member-lost.new.members → AreWhole p.parts.members) c.still.view_is c.add_member-lost.ensures.moved.whole
+returns-clause-whole g c = subst (λ p. AreWhole c.add_member-lost.new.members → AreWhole p.parts.members) c.still.view_is c.add_member-lost.ensures.keeps.moved.whole
 
 pub returns-then-contains-clause-work : goal.returns-then-contains-clause-work
 returns-then-contains-clause-work g c =

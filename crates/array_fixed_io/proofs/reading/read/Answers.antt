@@ -155,6 +155,7 @@ read_listed-fetched-requires-clause-stripes g c =
     subst (λ (s : Shape). IsTrue (is_multiple c.synced_rows-mended.result s.chunk)) (sym c.shape_in-shape.ensures) c.synced_rows-mended.ensures.stripes
 
 -- the list is short
+
 pub read_listed-fetched-requires-clause-short : goal.read_listed-fetched-requires-clause-short
 read_listed-fetched-requires-clause-short g c =
     let m = c.still.inside.members in
@@ -189,26 +190,26 @@ invariant_of-still-in-Some-refusal g c =
     let asked = length c.as_mut_slice.result.now / 512 in
     let same = asked-is c.in-Ok.bytes.items c.as_mut_slice.result.now c.args.into.now c.in-Ok.ensures.len c.as_mut_slice.ensures.value in
     let does = without-still a.members here.still (shape-without (shape_of a.members.newest) a.members (λ refusal many. c.in_default.ensures.why.1 refusal (inl many))) in
-    let since = lost-since given a.members m c.shape_in-shape.result.disks c.unassigned_roles-before.result roles spares before after here.placed did.moved did.failed
+    let since = lost-since given a.members m c.shape_in-shape.result.disks c.unassigned_roles-before.result roles spares before after here.placed did.keeps.moved did.keeps.failed
     (ap (λ (s : Shape). s.disks) c.shape_in-shape.ensures ∙ sym (count-still a.members.newest here.still)) c.unassigned_roles-before.ensures c.newly_unassigned-roles.ensures in
     let named : IsNamedStill g.B.Bank.tells given tape tape' a.members m roles spares before after =
-    record { moved = did.moved; since = since; grows = did.grows; clean = did.clean; rise = risen-told did.rise; others = did.others; safe = did.safe } in
+    record { moved = did.keeps.moved; since = since; grows = did.keeps.bank.grows; clean = did.clean; rise = risen-told did.keeps.rise; others = did.others; safe = did.safe } in
     let why = some-of (IsUnread c.shape_in-shape.result c.synced_rows-mended.result c.args.at asked m) c.fetch-fetched.result.refusal refusal c.in-Some-refusal.is did.refused in
-    let inside : c.args.at + count ≤ list_length m.newest = (let long = (rows-moved given a.members m did.moved).long in let below = c.in_default.ensures.why.0 in let most = visible-within (list_length a.members.newest) a.limit in omega (arith, long, below, most)) in
+    let inside : c.args.at + count ≤ list_length m.newest = (let long = (rows-moved given a.members m did.keeps.moved).long in let below = c.in_default.ensures.why.0 in let most = visible-within (list_length a.members.newest) a.limit in omega (arith, long, below, most)) in
     let unread : IsUnread (shape_of m.newest) (synced_rows a.work.resync m) c.args.at count m refusal =
-    subst (λ (s : Shape). IsUnread s (synced_rows a.work.resync m) c.args.at count m refusal) (c.shape_in-shape.ensures ∙ sym did.moved.shape)
-    (subst (λ (n : ℕ). IsUnread c.shape_in-shape.result n c.args.at count m refusal) (c.synced_rows-mended.ensures.rows ∙ sym (mended-moved did.moved a.work.resync))
+    subst (λ (s : Shape). IsUnread s (synced_rows a.work.resync m) c.args.at count m refusal) (c.shape_in-shape.ensures ∙ sym did.keeps.moved.shape)
+    (subst (λ (n : ℕ). IsUnread c.shape_in-shape.result n c.args.at count m refusal) (c.synced_rows-mended.ensures.rows ∙ sym (mended-moved did.keeps.moved a.work.resync))
     (subst (λ (n : ℕ). IsUnread c.shape_in-shape.result c.synced_rows-mended.result c.args.at n m refusal) same why)) in
     with-buffers was.rows_fit (let len = (with_items a.buffer c.fetch-fetched.new.scratch).ok.0 in let ok = a.buffer.ok.0 in let fits = was.buffer_fits in omega (arith, len, ok, fits))
-    (ready (entries_of c.args.who end (losses_of roles spares ++ Refused refusal ∷ [])) was (rows-moved given a.members m did.moved)
+    (ready (entries_of c.args.who end (losses_of roles spares ++ Refused refusal ∷ [])) was (rows-moved given a.members m did.keeps.moved)
     (refused-stands g.B.Bank.tells given tape tape' scope a.epoch.first a.epoch.entries.items a.members m a.work (still_left a.work a.members a.ahead) (still_left a.work m a.ahead) c.args.who end roles spares before after refusal
     was.kept (without-left given a.members here.placed here.unlost does) (begins-going a.epoch.entries.items c.args.who number) (not_254 c.args.who.caller c.requires.caller) c.ops-end-2.ensures.count named
-    (left-alike a.work a.ahead roles spares before after did.moved since)
-    (unread-still given m (rest-moved given a.members m did.moved here) a.work.resync c.args.at count refusal inside unread))
-    (plain-refused was c.args.who end (begins-going a.epoch.entries.items c.args.who number) c.requires.caller c.ops-end-2.ensures.count did.grows did.moved since refusal
-    (unread-plain given m (rest-moved given a.members m did.moved here) a.work.resync (visible_size a.members a.limit) c.args.at count refusal inside unread))
-    did.counts (behind-keeps c.args.who end roles spares (Refused refusal ∷ []) (alone-keeps c.args.who end (Refused refusal) (λ n. refl) (λ limit. refl)))
-    did.given (scope-same given a.backup did.given c.append_after_losses.ensures.uuid c.append_after_losses.ensures.given) c.append_after_losses.ensures.first c.make_room.ensures.items c.append_after_losses.ensures.items
+    (left-alike a.work a.ahead roles spares before after did.keeps.moved since)
+    (unread-still given m (rest-moved given a.members m did.keeps.moved here) a.work.resync c.args.at count refusal inside unread))
+    (plain-refused was c.args.who end (begins-going a.epoch.entries.items c.args.who number) c.requires.caller c.ops-end-2.ensures.count did.keeps.bank.grows did.keeps.moved since refusal
+    (unread-plain given m (rest-moved given a.members m did.keeps.moved here) a.work.resync (visible_size a.members a.limit) c.args.at count refusal inside unread))
+    did.keeps.bank.counts (behind-keeps c.args.who end roles spares (Refused refusal ∷ []) (alone-keeps c.args.who end (Refused refusal) (λ n. refl) (λ limit. refl)))
+    did.keeps.bank.same (scope-same given a.backup did.keeps.bank.same c.append_after_losses.ensures.uuid c.append_after_losses.ensures.given) c.append_after_losses.ensures.first c.make_room.ensures.items c.append_after_losses.ensures.items
     (omega (arith, c.append_after_losses.ensures.room, c.in-Ok-make_room.ensures.ok)))
 
 pub returns-in-Some-refusal-clause-answered : goal.returns-in-Some-refusal-clause-answered
@@ -242,12 +243,12 @@ returns-in-Some-refusal-clause-called g c =
     let spares = c.fetch-fetched.result.spares in
     let end = c.ops-end-2.result in
     let event = Refused c.in-Some-refusal.refusal in
-    let since = lost-since given a.members m c.shape_in-shape.result.disks c.unassigned_roles-before.result roles spares before after here.placed did.moved did.failed
+    let since = lost-since given a.members m c.shape_in-shape.result.disks c.unassigned_roles-before.result roles spares before after here.placed did.keeps.moved did.keeps.failed
     (ap (λ (s : Shape). s.disks) c.shape_in-shape.ensures ∙ sym (count-still a.members.newest here.still)) c.unassigned_roles-before.ensures c.newly_unassigned-roles.ensures in
-    rw (← c.still.view_is) (called did.grows did.moved
+    rw (← c.still.view_is) (called did.keeps.bank.grows did.keeps.moved
     (ended-behind (g.B.Bank.tape c.fetch-fetched.new.bank) c.append_after_losses.new.epoch.first c.make_room.new.self.items c.args.who end (losses_of roles spares) event c.append_after_losses.ensures.items c.ops-end-2.ensures.count)
     (losses-behind a.members m before after a.epoch.entries.items c.make_room.new.self.items c.append_after_losses.new.epoch.entries.items c.args.who end roles spares event since tt c.make_room.ensures.items c.append_after_losses.ensures.items)
-    did.counts
+    did.keeps.bank.counts
     (record { uuid = c.append_after_losses.ensures.uuid; given = c.append_after_losses.ensures.given; first = c.append_after_losses.ensures.first; backup = refl; work = refl; ahead = refl; limit = refl })
     (λ t. (was.kept.recorded t).begun))
 
@@ -286,10 +287,10 @@ pub returns-in-Some-refusal-clause-others : goal.returns-in-Some-refusal-clause-
 returns-in-Some-refusal-clause-others g c = subst (λ p. g.B.Bank.tells → AreOthersPresent (present (g.B.Bank.given p.parts.bank) (g.B.Bank.tape p.parts.bank)) (present (g.B.Bank.given p.parts.bank) (g.B.Bank.tape c.fetch-fetched.new.bank))) c.still.view_is c.fetch-fetched.ensures.others
 
 pub returns-in-Some-refusal-clause-failed : goal.returns-in-Some-refusal-clause-failed
-returns-in-Some-refusal-clause-failed g c = subst (λ p. HaveRolesFailed p.parts.members c.fetch-fetched.new.members (g.B.Bank.faults_of p.parts.bank) (g.B.Bank.faults_of c.fetch-fetched.new.bank)) c.still.view_is c.fetch-fetched.ensures.failed.roles
+returns-in-Some-refusal-clause-failed g c = subst (λ p. HaveRolesFailed p.parts.members c.fetch-fetched.new.members (g.B.Bank.faults_of p.parts.bank) (g.B.Bank.faults_of c.fetch-fetched.new.bank)) c.still.view_is c.fetch-fetched.ensures.keeps.failed.roles
 
 pub returns-in-Some-refusal-clause-whole : goal.returns-in-Some-refusal-clause-whole
-returns-in-Some-refusal-clause-whole g c = subst (λ p. AreWhole c.fetch-fetched.new.members → AreWhole p.parts.members) c.still.view_is c.fetch-fetched.ensures.moved.whole
+returns-in-Some-refusal-clause-whole g c = subst (λ p. AreWhole c.fetch-fetched.new.members → AreWhole p.parts.members) c.still.view_is c.fetch-fetched.ensures.keeps.moved.whole
 
 -- ---- done
 
@@ -317,20 +318,20 @@ invariant_of-still-2 g c =
     let seen_within : c.args.at + length bytes / 512 ≤ visible_size a.members a.limit = rw len c.in_default.ensures.why.0 in
     let within : c.args.at + length bytes / 512 ≤ list_length a.members.newest = le_trans seen_within (visible-within (list_length a.members.newest) a.limit) in
     let does = without-still a.members here.still (shape-without (shape_of a.members.newest) a.members (λ refusal many. c.in_default.ensures.why.1 refusal (inl many))) in
-    let since = lost-since given a.members m c.shape_in-shape.result.disks c.unassigned_roles-before.result roles spares before after here.placed did.moved did.failed
+    let since = lost-since given a.members m c.shape_in-shape.result.disks c.unassigned_roles-before.result roles spares before after here.placed did.keeps.moved did.keeps.failed
     (ap (λ (s : Shape). s.disks) c.shape_in-shape.ensures ∙ sym (count-still a.members.newest here.still)) c.unassigned_roles-before.ensures c.newly_unassigned-roles.ensures in
     let named : IsNamedStill g.B.Bank.tells given tape tape' a.members m roles spares before after =
-    record { moved = did.moved; since = since; grows = did.grows; clean = did.clean; rise = risen-told did.rise; others = did.others; safe = did.safe } in
+    record { moved = did.keeps.moved; since = since; grows = did.keeps.bank.grows; clean = did.clean; rise = risen-told did.keeps.rise; others = did.others; safe = did.safe } in
     let fetched = fetched-holds given tape a.members m a.work.resync c.shape_in-shape.result c.args.at (length c.as_mut_slice.result.now / 512) c.synced_rows-mended.result bytes c.shape_in-shape.ensures c.synced_rows-mended.ensures.rows same
     (did.holds c.in_default-refusal.is) in
     with-buffers was.rows_fit (let len = (with_items a.buffer c.fetch-fetched.new.scratch).ok.0 in let ok = a.buffer.ok.0 in let fits = was.buffer_fits in omega (arith, len, ok, fits))
-    (ready (entries_of c.args.who end (losses_of roles spares ++ Read c.args.at (sectors_of bytes) ∷ [])) was (rows-moved given a.members m did.moved)
+    (ready (entries_of c.args.who end (losses_of roles spares ++ Read c.args.at (sectors_of bytes) ∷ [])) was (rows-moved given a.members m did.keeps.moved)
     (read-stands g.B.Bank.tells given tape tape' scope a.epoch.first a.epoch.entries.items a.members m a.work (still_left a.work a.members a.ahead) (still_left a.work m a.ahead) c.args.who end roles spares before after
-    was.kept does (begins-going a.epoch.entries.items c.args.who number) (not_254 c.args.who.caller c.requires.caller) c.ops-end-2.ensures.count named (left-alike a.work a.ahead roles spares before after did.moved since)
+    was.kept does (begins-going a.epoch.entries.items c.args.who number) (not_254 c.args.who.caller c.requires.caller) c.ops-end-2.ensures.count named (left-alike a.work a.ahead roles spares before after did.keeps.moved since)
     c.args.at bytes within (λ t. let all = seen was.kept was.limited t in omega (arith, all, seen_within)) fetched)
-    (plain-read was c.args.who end (begins-going a.epoch.entries.items c.args.who number) c.requires.caller c.ops-end-2.ensures.count did.grows did.moved since c.args.at bytes does seen_within fetched)
-    did.counts (behind-keeps c.args.who end roles spares (Read c.args.at (sectors_of bytes) ∷ []) (alone-keeps c.args.who end (Read c.args.at (sectors_of bytes)) (λ n. refl) (λ limit. refl)))
-    did.given (scope-same given a.backup did.given c.append_after_losses-2.ensures.uuid c.append_after_losses-2.ensures.given) c.append_after_losses-2.ensures.first c.make_room.ensures.items
+    (plain-read was c.args.who end (begins-going a.epoch.entries.items c.args.who number) c.requires.caller c.ops-end-2.ensures.count did.keeps.bank.grows did.keeps.moved since c.args.at bytes does seen_within fetched)
+    did.keeps.bank.counts (behind-keeps c.args.who end roles spares (Read c.args.at (sectors_of bytes) ∷ []) (alone-keeps c.args.who end (Read c.args.at (sectors_of bytes)) (λ n. refl) (λ limit. refl)))
+    did.keeps.bank.same (scope-same given a.backup did.keeps.bank.same c.append_after_losses-2.ensures.uuid c.append_after_losses-2.ensures.given) c.append_after_losses-2.ensures.first c.make_room.ensures.items
     (c.append_after_losses-2.ensures.items ∙ ap (λ (b : List Sector). c.make_room.new.self.items ++ entries_of c.args.who end (losses_of roles spares ++ Read c.args.at b ∷ [])) (c.from_bytes-body.ensures ∙ ap sectors_of whole))
     (omega (arith, c.append_after_losses-2.ensures.room, c.in-Ok-make_room.ensures.ok)))
 
@@ -368,13 +369,13 @@ returns-clause-holds g c = λ t fills i lt.
     let copied : c.copy_from_slice.new.self ≡ bytes = c.copy_from_slice.ensures.after ∙ c.as_slice.ensures.value ∙ whole in
     let same : length bytes / 512 ≡ length c.as_mut_slice.result.now / 512 = ap (λ (n : ℕ). n / 512) c.fetch-fetched.auto.into in
     let does = without-still a.members here.still (shape-without (shape_of a.members.newest) a.members (λ refusal many. c.in_default.ensures.why.1 refusal (inl many))) in
-    let since = lost-since given a.members m c.shape_in-shape.result.disks c.unassigned_roles-before.result roles spares before after here.placed did.moved did.failed
+    let since = lost-since given a.members m c.shape_in-shape.result.disks c.unassigned_roles-before.result roles spares before after here.placed did.keeps.moved did.keeps.failed
     (ap (λ (s : Shape). s.disks) c.shape_in-shape.ensures ∙ sym (count-still a.members.newest here.still)) c.unassigned_roles-before.ensures c.newly_unassigned-roles.ensures in
     let event = Read c.args.at c.from_bytes-body.result in
     let added = entries_of c.args.who c.ops-end-2.result (losses_of roles spares ++ event ∷ []) in
     let items : c.append_after_losses-2.new.epoch.entries.items ≡ a.epoch.entries.items ++ added = c.append_after_losses-2.ensures.items ∙ ap (λ (l : List Entry). l ++ added) c.make_room.ensures.items in
     ap (λ (l : List ℕ). row_sector l i) copied ∙ sym (row-sector bytes i)
-    ∙ read-holds was.kept does c.args.who c.ops-end-2.result event did.moved since c.args.at bytes
+    ∙ read-holds was.kept does c.args.who c.ops-end-2.result event did.keeps.moved since c.args.at bytes
     (fetched-holds given tape a.members m a.work.resync c.shape_in-shape.result c.args.at (length c.as_mut_slice.result.now / 512) c.synced_rows-mended.result bytes c.shape_in-shape.ensures c.synced_rows-mended.ensures.rows same
     (did.holds c.in_default-refusal.is)) t
     (subst (λ (l : List Entry). IsFilledRight (world_in given tape (scope_in given a.epoch.uuid a.epoch.given a.backup) a.epoch.first) l) items
@@ -395,12 +396,12 @@ returns-clause-called g c =
     let spares = c.fetch-fetched.result.spares in
     let end = c.ops-end-2.result in
     let event = Read c.args.at c.from_bytes-body.result in
-    let since = lost-since given a.members m c.shape_in-shape.result.disks c.unassigned_roles-before.result roles spares before after here.placed did.moved did.failed
+    let since = lost-since given a.members m c.shape_in-shape.result.disks c.unassigned_roles-before.result roles spares before after here.placed did.keeps.moved did.keeps.failed
     (ap (λ (s : Shape). s.disks) c.shape_in-shape.ensures ∙ sym (count-still a.members.newest here.still)) c.unassigned_roles-before.ensures c.newly_unassigned-roles.ensures in
-    rw (← c.still.view_is) (called did.grows did.moved
+    rw (← c.still.view_is) (called did.keeps.bank.grows did.keeps.moved
     (ended-behind (g.B.Bank.tape c.fetch-fetched.new.bank) c.append_after_losses-2.new.epoch.first c.make_room.new.self.items c.args.who end (losses_of roles spares) event c.append_after_losses-2.ensures.items c.ops-end-2.ensures.count)
     (losses-behind a.members m before after a.epoch.entries.items c.make_room.new.self.items c.append_after_losses-2.new.epoch.entries.items c.args.who end roles spares event since tt c.make_room.ensures.items c.append_after_losses-2.ensures.items)
-    did.counts
+    did.keeps.bank.counts
     (record { uuid = c.append_after_losses-2.ensures.uuid; given = c.append_after_losses-2.ensures.given; first = c.append_after_losses-2.ensures.first; backup = refl; work = refl; ahead = refl; limit = refl })
     (λ t. (was.kept.recorded t).begun))
 
@@ -414,10 +415,10 @@ pub returns-clause-caused : goal.returns-clause-caused
 returns-clause-caused g c = rw (← c.still.view_is) c.in_default.ensures.why
 
 pub returns-clause-failed : goal.returns-clause-failed
-returns-clause-failed g c = subst (λ p. HaveRolesFailed p.parts.members c.fetch-fetched.new.members (g.B.Bank.faults_of p.parts.bank) (g.B.Bank.faults_of c.fetch-fetched.new.bank)) c.still.view_is c.fetch-fetched.ensures.failed.roles
+returns-clause-failed g c = subst (λ p. HaveRolesFailed p.parts.members c.fetch-fetched.new.members (g.B.Bank.faults_of p.parts.bank) (g.B.Bank.faults_of c.fetch-fetched.new.bank)) c.still.view_is c.fetch-fetched.ensures.keeps.failed.roles
 
 pub returns-clause-whole : goal.returns-clause-whole
-returns-clause-whole g c = subst (λ p. AreWhole c.fetch-fetched.new.members → AreWhole p.parts.members) c.still.view_is c.fetch-fetched.ensures.moved.whole
+returns-clause-whole g c = subst (λ p. AreWhole c.fetch-fetched.new.members → AreWhole p.parts.members) c.still.view_is c.fetch-fetched.ensures.keeps.moved.whole
 
 pub returns-clause-first : goal.returns-clause-first
 returns-clause-first g c = rw (← c.still.view_is) (sym c.in_default.ensures.first)
@@ -460,17 +461,13 @@ synced_rows-mended-requires-clause-multiple g c = multiple (g.B.Bank.given c.sti
 pub synced_rows-mended-requires-clause-progress : goal.synced_rows-mended-requires-clause-progress
 synced_rows-mended-requires-clause-progress g c = c.still.invariant.kept.progress
 
-pub read_listed-fetched-requires-clause-slots : goal.read_listed-fetched-requires-clause-slots
-read_listed-fetched-requires-clause-slots g c = c.still.invariant.kept.slots
-
-pub read_listed-fetched-requires-clause-placed : goal.read_listed-fetched-requires-clause-placed
-read_listed-fetched-requires-clause-placed g c = c.still.invariant.kept.members_are.placed
-
-pub read_listed-fetched-requires-clause-unlost : goal.read_listed-fetched-requires-clause-unlost
-read_listed-fetched-requires-clause-unlost g c = c.still.invariant.kept.members_are.unlost
-
-pub read_listed-fetched-requires-clause-free : goal.read_listed-fetched-requires-clause-free
-read_listed-fetched-requires-clause-free g c = c.still.invariant.kept.members_are.free
+pub read_listed-fetched-requires-clause-stands : goal.read_listed-fetched-requires-clause-stands
+read_listed-fetched-requires-clause-stands g c = record {
+  slots = c.still.invariant.kept.slots;
+  placed = c.still.invariant.kept.members_are.placed;
+  unlost = c.still.invariant.kept.members_are.unlost;
+  free = c.still.invariant.kept.members_are.free;
+}
 
 pub read_listed-fetched-requires-clause-into : goal.read_listed-fetched-requires-clause-into
 read_listed-fetched-requires-clause-into g c = whole-alike _ _ (ap (λ (l : List ℕ). length l) c.as_mut_slice.ensures.value ∙ c.in-Ok.ensures.len) c.requires.whole
@@ -482,7 +479,7 @@ pub read_listed-fetched-requires-clause-mended : goal.read_listed-fetched-requir
 read_listed-fetched-requires-clause-mended g c = c.synced_rows-mended.ensures.within
 
 pub newly_unassigned-roles-requires-clause-known : goal.newly_unassigned-roles-requires-clause-known
-newly_unassigned-roles-requires-clause-known g c = known-behind c.fetch-fetched.ensures.moved c.shape_in-shape.ensures
+newly_unassigned-roles-requires-clause-known g c = known-behind c.fetch-fetched.ensures.keeps.moved c.shape_in-shape.ensures
 
 pub copy_from_slice-requires : goal.copy_from_slice-requires
 copy_from_slice-requires g c =
@@ -562,10 +559,10 @@ pub returns-in-Some-refusal-clause-clean : goal.returns-in-Some-refusal-clause-c
 returns-in-Some-refusal-clause-clean g c = c.fetch-fetched.ensures.clean ∙ ap (λ p. is_clean p.parts.members.newest) c.still.view_is
 
 pub returns-in-Some-refusal-clause-given : goal.returns-in-Some-refusal-clause-given
-returns-in-Some-refusal-clause-given g c = c.fetch-fetched.ensures.given ∙ ap (λ p. g.B.Bank.given p.parts.bank) c.still.view_is
+returns-in-Some-refusal-clause-given g c = c.fetch-fetched.ensures.keeps.bank.same ∙ ap (λ p. g.B.Bank.given p.parts.bank) c.still.view_is
 
 pub returns-clause-clean : goal.returns-clause-clean
 returns-clause-clean g c = c.fetch-fetched.ensures.clean ∙ ap (λ p. is_clean p.parts.members.newest) c.still.view_is
 
 pub returns-clause-given : goal.returns-clause-given
-returns-clause-given g c = c.fetch-fetched.ensures.given ∙ ap (λ p. g.B.Bank.given p.parts.bank) c.still.view_is
+returns-clause-given g c = c.fetch-fetched.ensures.keeps.bank.same ∙ ap (λ p. g.B.Bank.given p.parts.bank) c.still.view_is

@@ -111,6 +111,7 @@ write_listed-done-requires-clause-within g c =
     (le_trans c.in_default.ensures.why.0 (visible-within (list_length m.newest) c.still.inside.limit)))
 
 -- the list is short
+
 pub write_listed-done-requires-clause-short : goal.write_listed-done-requires-clause-short
 write_listed-done-requires-clause-short g c =
     let m = c.still.inside.members in
@@ -148,23 +149,23 @@ invariant_of-still-in-Some-refusal g c =
     let synced = c.are_synced-synced.result in
     let asked : synced ≡ are_synced (shape_of a.members.newest) (synced_rows a.work.resync a.members) (c.args.at + length from / 512) =
     c.are_synced-synced.ensures ∙ ap (λ (s : Shape). are_synced s (synced_rows a.work.resync a.members) (c.args.at + length from / 512)) c.shape_in-shape.ensures in
-    let since = lost-since given a.members m c.shape_in-shape.result.disks c.unassigned_roles-before.result roles spares before after here.placed did.moved did.failed
+    let since = lost-since given a.members m c.shape_in-shape.result.disks c.unassigned_roles-before.result roles spares before after here.placed did.keeps.moved did.keeps.failed
     (ap (λ (s : Shape). s.disks) c.shape_in-shape.ensures ∙ sym (count-still a.members.newest here.still)) c.unassigned_roles-before.ensures c.newly_unassigned-roles.ensures in
-    let put = put-still given tape tape' a.members m here did.moved a.work.resync shape c.shape_in-shape.ensures c.args.at from synced asked since did.grows did.stays did.rise did.safe in
+    let put = put-still given tape tape' a.members m here did.keeps.moved a.work.resync shape c.shape_in-shape.ensures c.args.at from synced asked since did.keeps.bank.grows did.stays did.keeps.rise did.safe in
     with-buffers (let fits = was.rows_fit in let more = did.rows in omega (arith, fits, more)) (rw did.buffer was.buffer_fits)
-    (ready (entries_of c.args.who end (failure_events roles spares torn c.args.at body refusal)) was (rows-moved given a.members m did.moved)
+    (ready (entries_of c.args.who end (failure_events roles spares torn c.args.at body refusal)) was (rows-moved given a.members m did.keeps.moved)
     (failed-stands (still_left a.work m a.ahead) c.args.who end shape c.args.at from synced torn refusal was.kept does (begins-going a.epoch.entries.items c.args.who number) (not_254 c.args.who.caller c.requires.caller) c.ops-end-2.ensures.count
-    (left-alike a.work a.ahead roles spares before after did.moved since) c.shape_in-shape.ensures asked within
+    (left-alike a.work a.ahead roles spares before after did.keeps.moved since) c.shape_in-shape.ensures asked within
     (λ t. let all = seen was.kept was.limited t in let within = c.in_default.ensures.why.0 in omega (arith, all, within)) put
     (some-of (IsUnwritten shape synced m) c.put-done.result.refusal refusal c.in-Some-refusal.is did.refused)
     (λ begun. some-of (LacksTooMany shape m) c.put-done.result.refusal refusal c.in-Some-refusal.is (did.torn begun)) did.untouched)
-    (plain-unwritten was c.args.who end (begins-going a.epoch.entries.items c.args.who number) c.requires.caller c.ops-end-2.ensures.count did.grows did.moved since c.args.at from shape torn refusal c.in_default.ensures.why.0
-    (c.shape_in-shape.ensures ∙ sym did.moved.shape)
-    (put-plain given a.members m here did.moved a.work.resync (visible_size a.members a.limit) (c.args.at + length from / 512) shape synced refusal c.shape_in-shape.ensures asked within
+    (plain-unwritten was c.args.who end (begins-going a.epoch.entries.items c.args.who number) c.requires.caller c.ops-end-2.ensures.count did.keeps.bank.grows did.keeps.moved since c.args.at from shape torn refusal c.in_default.ensures.why.0
+    (c.shape_in-shape.ensures ∙ sym did.keeps.moved.shape)
+    (put-plain given a.members m here did.keeps.moved a.work.resync (visible_size a.members a.limit) (c.args.at + length from / 512) shape synced refusal c.shape_in-shape.ensures asked within
     (some-of (IsUnwritten shape synced m) c.put-done.result.refusal refusal c.in-Some-refusal.is did.refused))
     (λ begun. some-of (LacksTooMany shape m) c.put-done.result.refusal refusal c.in-Some-refusal.is (did.torn begun)))
-    did.counts (failure-keeps c.args.who end roles spares torn c.args.at body refusal)
-    did.given (scope-same given a.backup did.given c.append_failure.ensures.uuid c.append_failure.ensures.given) c.append_failure.ensures.first c.make_room.ensures.items
+    did.keeps.bank.counts (failure-keeps c.args.who end roles spares torn c.args.at body refusal)
+    did.keeps.bank.same (scope-same given a.backup did.keeps.bank.same c.append_failure.ensures.uuid c.append_failure.ensures.given) c.append_failure.ensures.first c.make_room.ensures.items
     (c.append_failure.ensures.items ∙ ap (λ (b : List Sector). c.make_room.new.self.items ++ entries_of c.args.who end (failure_events roles spares torn c.args.at b refusal)) c.in-Ok.ensures)
     (omega (arith, c.append_failure.ensures.room, c.in-Ok-make_room.ensures.ok)))
 
@@ -236,13 +237,13 @@ returns-in-Some-refusal-clause-called g c =
     let spares = c.put-done.result.spares in
     let torn = c.put-done.result.begun in
     let end = c.ops-end-2.result in
-    let since = lost-since given a.members m c.shape_in-shape.result.disks c.unassigned_roles-before.result roles spares before after here.placed did.moved did.failed
+    let since = lost-since given a.members m c.shape_in-shape.result.disks c.unassigned_roles-before.result roles spares before after here.placed did.keeps.moved did.keeps.failed
     (ap (λ (s : Shape). s.disks) c.shape_in-shape.ensures ∙ sym (count-still a.members.newest here.still)) c.unassigned_roles-before.ensures c.newly_unassigned-roles.ensures in
-    rw (← c.still.view_is) (called did.grows did.moved
+    rw (← c.still.view_is) (called did.keeps.bank.grows did.keeps.moved
     (ended-failure (g.B.Bank.tape c.put-done.new.bank) c.append_failure.new.epoch.first c.make_room.new.self.items c.args.who end roles spares torn c.args.at c.in-Ok.body c.in-Some-refusal.refusal c.append_failure.ensures.items c.ops-end-2.ensures.count)
     (losses-failure a.members m before after a.epoch.entries.items c.make_room.new.self.items c.append_failure.new.epoch.entries.items c.args.who end roles spares torn c.args.at c.in-Ok.body c.in-Some-refusal.refusal since
     c.make_room.ensures.items c.append_failure.ensures.items)
-    did.counts
+    did.keeps.bank.counts
     (record { uuid = c.append_failure.ensures.uuid; given = c.append_failure.ensures.given; first = c.append_failure.ensures.first; backup = refl; work = refl; ahead = refl; limit = refl })
     (λ t. (was.kept.recorded t).begun))
 
@@ -275,19 +276,19 @@ invariant_of-still-2 g c =
     let synced = c.are_synced-synced.result in
     let asked : synced ≡ are_synced (shape_of a.members.newest) (synced_rows a.work.resync a.members) (c.args.at + length from / 512) =
     c.are_synced-synced.ensures ∙ ap (λ (s : Shape). are_synced s (synced_rows a.work.resync a.members) (c.args.at + length from / 512)) c.shape_in-shape.ensures in
-    let since = lost-since given a.members m c.shape_in-shape.result.disks c.unassigned_roles-before.result roles spares before after here.placed did.moved did.failed
+    let since = lost-since given a.members m c.shape_in-shape.result.disks c.unassigned_roles-before.result roles spares before after here.placed did.keeps.moved did.keeps.failed
     (ap (λ (s : Shape). s.disks) c.shape_in-shape.ensures ∙ sym (count-still a.members.newest here.still)) c.unassigned_roles-before.ensures c.newly_unassigned-roles.ensures in
-    let put = put-still given tape tape' a.members m here did.moved a.work.resync shape c.shape_in-shape.ensures c.args.at from synced asked since did.grows did.stays did.rise did.safe in
-    let written = written-still given tape tape' a.members m here did.moved a.work.resync shape c.shape_in-shape.ensures c.args.at from synced asked (did.dirty done) did.others (did.write_listed done)
+    let put = put-still given tape tape' a.members m here did.keeps.moved a.work.resync shape c.shape_in-shape.ensures c.args.at from synced asked since did.keeps.bank.grows did.stays did.keeps.rise did.safe in
+    let written = written-still given tape tape' a.members m here did.keeps.moved a.work.resync shape c.shape_in-shape.ensures c.args.at from synced asked (did.dirty done) did.others (did.write_listed done)
     (λ t list more written. did.good done t list more written bytes) (did.rebuilt done) in
     with-buffers (let fits = was.rows_fit in let more = did.rows in omega (arith, fits, more)) (rw did.buffer was.buffer_fits)
-    (ready (entries_of c.args.who end (losses_of roles spares ++ Wrote c.args.at body ∷ [])) was (rows-moved given a.members m did.moved)
+    (ready (entries_of c.args.who end (losses_of roles spares ++ Wrote c.args.at body ∷ [])) was (rows-moved given a.members m did.keeps.moved)
     (wrote-stands g.B.Bank.tells given tape tape' scope a.epoch.first a.epoch.entries.items a.members m a.work (still_left a.work a.members a.ahead) (still_left a.work m a.ahead) c.args.who end roles spares before after c.args.at from c.put-done.result.begun
-    was.kept does (begins-going a.epoch.entries.items c.args.who number) (not_254 c.args.who.caller c.requires.caller) c.ops-end-2.ensures.count (left-alike a.work a.ahead roles spares before after did.moved since) within
+    was.kept does (begins-going a.epoch.entries.items c.args.who number) (not_254 c.args.who.caller c.requires.caller) c.ops-end-2.ensures.count (left-alike a.work a.ahead roles spares before after did.keeps.moved since) within
     (λ t. let all = seen was.kept was.limited t in let within = c.in_default.ensures.why.0 in omega (arith, all, within)) put written c.requires.whole bytes)
-    (plain-wrote was c.args.who end (begins-going a.epoch.entries.items c.args.who number) c.requires.caller c.ops-end-2.ensures.count did.grows did.moved since c.args.at from c.in_default.ensures.why.0)
-    did.counts (behind-keeps c.args.who end roles spares (Wrote c.args.at body ∷ []) (alone-keeps c.args.who end (Wrote c.args.at body) (λ n. refl) (λ limit. refl)))
-    did.given (scope-same given a.backup did.given c.append_after_losses.ensures.uuid c.append_after_losses.ensures.given) c.append_after_losses.ensures.first c.make_room.ensures.items
+    (plain-wrote was c.args.who end (begins-going a.epoch.entries.items c.args.who number) c.requires.caller c.ops-end-2.ensures.count did.keeps.bank.grows did.keeps.moved since c.args.at from c.in_default.ensures.why.0)
+    did.keeps.bank.counts (behind-keeps c.args.who end roles spares (Wrote c.args.at body ∷ []) (alone-keeps c.args.who end (Wrote c.args.at body) (λ n. refl) (λ limit. refl)))
+    did.keeps.bank.same (scope-same given a.backup did.keeps.bank.same c.append_after_losses.ensures.uuid c.append_after_losses.ensures.given) c.append_after_losses.ensures.first c.make_room.ensures.items
     (c.append_after_losses.ensures.items ∙ ap (λ (b : List Sector). c.make_room.new.self.items ++ entries_of c.args.who end (losses_of roles spares ++ Wrote c.args.at b ∷ [])) c.in-Ok.ensures)
     (omega (arith, c.append_after_losses.ensures.room, c.in-Ok-make_room.ensures.ok)))
 
@@ -319,12 +320,12 @@ returns-clause-called g c =
     let spares = c.put-done.result.spares in
     let end = c.ops-end-2.result in
     let event = Wrote c.args.at c.in-Ok.body in
-    let since = lost-since given a.members m c.shape_in-shape.result.disks c.unassigned_roles-before.result roles spares before after here.placed did.moved did.failed
+    let since = lost-since given a.members m c.shape_in-shape.result.disks c.unassigned_roles-before.result roles spares before after here.placed did.keeps.moved did.keeps.failed
     (ap (λ (s : Shape). s.disks) c.shape_in-shape.ensures ∙ sym (count-still a.members.newest here.still)) c.unassigned_roles-before.ensures c.newly_unassigned-roles.ensures in
-    rw (← c.still.view_is) (called did.grows did.moved
+    rw (← c.still.view_is) (called did.keeps.bank.grows did.keeps.moved
     (ended-behind (g.B.Bank.tape c.put-done.new.bank) c.append_after_losses.new.epoch.first c.make_room.new.self.items c.args.who end (losses_of roles spares) event c.append_after_losses.ensures.items c.ops-end-2.ensures.count)
     (losses-behind a.members m before after a.epoch.entries.items c.make_room.new.self.items c.append_after_losses.new.epoch.entries.items c.args.who end roles spares event since tt c.make_room.ensures.items c.append_after_losses.ensures.items)
-    did.counts
+    did.keeps.bank.counts
     (record { uuid = c.append_after_losses.ensures.uuid; given = c.append_after_losses.ensures.given; first = c.append_after_losses.ensures.first; backup = refl; work = refl; ahead = refl; limit = refl })
     (λ t. (was.kept.recorded t).begun))
 
@@ -431,17 +432,13 @@ are_synced-synced-requires-clause-size g c = short (g.B.Bank.given c.still.insid
 pub are_synced-synced-requires-clause-progress : goal.are_synced-synced-requires-clause-progress
 are_synced-synced-requires-clause-progress g c = c.still.invariant.kept.progress
 
-pub write_listed-done-requires-clause-slots : goal.write_listed-done-requires-clause-slots
-write_listed-done-requires-clause-slots g c = c.still.invariant.kept.slots
-
-pub write_listed-done-requires-clause-placed : goal.write_listed-done-requires-clause-placed
-write_listed-done-requires-clause-placed g c = c.still.invariant.kept.members_are.placed
-
-pub write_listed-done-requires-clause-unlost : goal.write_listed-done-requires-clause-unlost
-write_listed-done-requires-clause-unlost g c = c.still.invariant.kept.members_are.unlost
-
-pub write_listed-done-requires-clause-free : goal.write_listed-done-requires-clause-free
-write_listed-done-requires-clause-free g c = c.still.invariant.kept.members_are.free
+pub write_listed-done-requires-clause-stands : goal.write_listed-done-requires-clause-stands
+write_listed-done-requires-clause-stands g c = record {
+  slots = c.still.invariant.kept.slots;
+  placed = c.still.invariant.kept.members_are.placed;
+  unlost = c.still.invariant.kept.members_are.unlost;
+  free = c.still.invariant.kept.members_are.free;
+}
 
 pub write_listed-done-requires-clause-from : goal.write_listed-done-requires-clause-from
 write_listed-done-requires-clause-from g c = c.requires.whole
@@ -457,7 +454,7 @@ write_listed-done-requires-clause-buffer g c = c.still.invariant.buffer_fits
 
 pub newly_unassigned-roles-requires-clause-known : goal.newly_unassigned-roles-requires-clause-known
 newly_unassigned-roles-requires-clause-known g c =
-    let moved = c.put-done.ensures.moved in
+    let moved = c.put-done.ensures.keeps.moved in
     shape-known (g.B.Bank.given c.still.inside.bank) c.put-done.new.members moved.placed c.shape_in-shape.result (c.shape_in-shape.ensures ∙ sym moved.shape)
 
 pub newly_unassigned-roles-requires-clause-few : goal.newly_unassigned-roles-requires-clause-few
@@ -470,7 +467,7 @@ pub append_failure-requires-clause-number : goal.append_failure-requires-clause-
 append_failure-requires-clause-number g c = c.check_number.ensures
 
 pub returns-in-Some-refusal-clause-given : goal.returns-in-Some-refusal-clause-given
-returns-in-Some-refusal-clause-given g c = c.put-done.ensures.given ∙ ap (λ p. g.B.Bank.given p.parts.bank) c.still.view_is
+returns-in-Some-refusal-clause-given g c = c.put-done.ensures.keeps.bank.same ∙ ap (λ p. g.B.Bank.given p.parts.bank) c.still.view_is
 
 pub append_after_losses-requires-clause-room : goal.append_after_losses-requires-clause-room
 append_after_losses-requires-clause-room g c = room-49 c.make_room.new.self.room (room-50 51 c.make_room.new.self.room (omega arith) c.in-Ok-make_room.ensures.ok)
@@ -482,7 +479,7 @@ pub returns-clause-dirty : goal.returns-clause-dirty
 returns-clause-dirty g c = c.put-done.ensures.dirty c.in_default-refusal.is
 
 pub returns-clause-given : goal.returns-clause-given
-returns-clause-given g c = c.put-done.ensures.given ∙ ap (λ p. g.B.Bank.given p.parts.bank) c.still.view_is
+returns-clause-given g c = c.put-done.ensures.keeps.bank.same ∙ ap (λ p. g.B.Bank.given p.parts.bank) c.still.view_is
 
 pub returns-in-Some-clause-caused : goal.returns-in-Some-clause-caused
 returns-in-Some-clause-caused g c =
@@ -500,17 +497,17 @@ returns-in-Some-clause-first g c =
 
 pub returns-in-Some-refusal-clause-failed : goal.returns-in-Some-refusal-clause-failed
 returns-in-Some-refusal-clause-failed g c =
-    subst (λ p. HaveRolesFailed p.parts.members c.put-done.new.members (g.B.Bank.faults_of p.parts.bank) (g.B.Bank.faults_of c.put-done.new.bank)) c.still.view_is c.put-done.ensures.failed.roles
+    subst (λ p. HaveRolesFailed p.parts.members c.put-done.new.members (g.B.Bank.faults_of p.parts.bank) (g.B.Bank.faults_of c.put-done.new.bank)) c.still.view_is c.put-done.ensures.keeps.failed.roles
 
 pub returns-in-Some-refusal-clause-whole : goal.returns-in-Some-refusal-clause-whole
-returns-in-Some-refusal-clause-whole g c = subst (λ p. AreWhole c.put-done.new.members → AreWhole p.parts.members) c.still.view_is c.put-done.ensures.moved.whole
+returns-in-Some-refusal-clause-whole g c = subst (λ p. AreWhole c.put-done.new.members → AreWhole p.parts.members) c.still.view_is c.put-done.ensures.keeps.moved.whole
 
 pub returns-clause-failed : goal.returns-clause-failed
 returns-clause-failed g c =
-    subst (λ p. HaveRolesFailed p.parts.members c.put-done.new.members (g.B.Bank.faults_of p.parts.bank) (g.B.Bank.faults_of c.put-done.new.bank)) c.still.view_is c.put-done.ensures.failed.roles
+    subst (λ p. HaveRolesFailed p.parts.members c.put-done.new.members (g.B.Bank.faults_of p.parts.bank) (g.B.Bank.faults_of c.put-done.new.bank)) c.still.view_is c.put-done.ensures.keeps.failed.roles
 
 pub returns-clause-whole : goal.returns-clause-whole
-returns-clause-whole g c = subst (λ p. AreWhole c.put-done.new.members → AreWhole p.parts.members) c.still.view_is c.put-done.ensures.moved.whole
+returns-clause-whole g c = subst (λ p. AreWhole c.put-done.new.members → AreWhole p.parts.members) c.still.view_is c.put-done.ensures.keeps.moved.whole
 
 pub returns-in-Some-clause-untouched : goal.returns-in-Some-clause-untouched
 returns-in-Some-clause-untouched g c = λ none.

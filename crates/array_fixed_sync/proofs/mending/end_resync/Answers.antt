@@ -70,23 +70,23 @@ invariant_of-still g c =
     let spares = c.settle-settled.result.spares in
     let end = c.ops-end.result in
     let refusal = c.in-Some-refusal.refusal in
-    let since : AreLostSince a.members m roles spares before after = lost-since given a.members m c.shape_in-disks.result.disks c.unassigned_roles-before.result roles spares before after here.placed did.moved did.failed
+    let since : AreLostSince a.members m roles spares before after = lost-since given a.members m c.shape_in-disks.result.disks c.unassigned_roles-before.result roles spares before after here.placed did.keeps.moved did.keeps.failed
     (ap (λ (s : Shape). s.disks) c.shape_in-disks.ensures ∙ sym (count-still a.members.newest here.still)) c.unassigned_roles-before.ensures c.newly_unassigned-roles.ensures in
     let leaves : IsFlushedStill g.B.Bank.tells given (g.B.Bank.tape a.bank) (g.B.Bank.tape c.settle-settled.new.bank) a.members m roles spares before after false = record {
-      moved = did.moved;
+      moved = did.keeps.moved;
       since = since;
-      grows = did.grows;
-      rise = risen-told did.rise;
+      grows = did.keeps.bank.grows;
+      rise = risen-told did.keeps.rise;
       others = did.others;
       safe = did.safe;
     } in
-    ready (entries_of c.args.who end (losses_of roles spares ++ Refused refusal ∷ [])) was (rows-moved given a.members m did.moved)
+    ready (entries_of c.args.who end (losses_of roles spares ++ Refused refusal ∷ [])) was (rows-moved given a.members m did.keeps.moved)
     (resync-refused a.ahead c.args.who end roles spares was.kept c.in_default.ensures goes c.requires.caller c.ops-end.ensures.count all leaves refusal
     (refused-of (AreTooMany m) c.settle-settled.result.refusal refusal c.in-Some-refusal.is did.refused))
-    (plain-refused was c.args.who end goes c.requires.caller c.ops-end.ensures.count did.grows did.moved since refusal
+    (plain-refused was c.args.who end goes c.requires.caller c.ops-end.ensures.count did.keeps.bank.grows did.keeps.moved since refusal
     (too-many-here (visible_size a.members a.limit) a.work.resync m refusal (refused-of (AreTooMany m) c.settle-settled.result.refusal refusal c.in-Some-refusal.is did.refused)))
-    did.counts (behind-keeps c.args.who end roles spares (Refused refusal ∷ []) (alone-keeps c.args.who end (Refused refusal) (λ n. refl) (λ limit. refl)))
-    did.given (scope-same given a.backup did.given c.append_after_losses.ensures.uuid c.append_after_losses.ensures.given) c.append_after_losses.ensures.first refl c.append_after_losses.ensures.items
+    did.keeps.bank.counts (behind-keeps c.args.who end roles spares (Refused refusal ∷ []) (alone-keeps c.args.who end (Refused refusal) (λ n. refl) (λ limit. refl)))
+    did.keeps.bank.same (scope-same given a.backup did.keeps.bank.same c.append_after_losses.ensures.uuid c.append_after_losses.ensures.given) c.append_after_losses.ensures.first refl c.append_after_losses.ensures.items
     (room-after was.room_left some c.append_after_losses.ensures.room)
 
 pub returns-in-Some-refusal-clause-stepped : goal.returns-in-Some-refusal-clause-stepped
@@ -103,13 +103,13 @@ returns-in-Some-refusal-clause-stepped g c =
     let spares = c.settle-settled.result.spares in
     let end = c.ops-end.result in
     let refusal = c.in-Some-refusal.refusal in
-    let since : AreLostSince a.members m roles spares before after = lost-since given a.members m c.shape_in-disks.result.disks c.unassigned_roles-before.result roles spares before after here.placed did.moved did.failed
+    let since : AreLostSince a.members m roles spares before after = lost-since given a.members m c.shape_in-disks.result.disks c.unassigned_roles-before.result roles spares before after here.placed did.keeps.moved did.keeps.failed
     (ap (λ (s : Shape). s.disks) c.shape_in-disks.ensures ∙ sym (count-still a.members.newest here.still)) c.unassigned_roles-before.ensures c.newly_unassigned-roles.ensures in
-    rw (← c.still.view_is) (stepped did.grows (shapes-moved did.moved)
+    rw (← c.still.view_is) (stepped did.keeps.bank.grows (shapes-moved did.keeps.moved)
     (ended-behind (g.B.Bank.tape c.settle-settled.new.bank) c.append_after_losses.new.epoch.first a.epoch.entries.items c.args.who end (losses_of roles spares) (Refused refusal) c.append_after_losses.ensures.items c.ops-end.ensures.count)
-    did.failed.roles
+    did.keeps.failed.roles
     (losses-behind a.members m before after a.epoch.entries.items a.epoch.entries.items c.append_after_losses.new.epoch.entries.items c.args.who end roles spares (Refused refusal) since tt refl c.append_after_losses.ensures.items)
-    did.counts
+    did.keeps.bank.counts
     (record { uuid = c.append_after_losses.ensures.uuid; given = c.append_after_losses.ensures.given; first = c.append_after_losses.ensures.first; backup = refl; ahead = refl; limit = refl })
     (λ t. (was.kept.recorded t).begun))
 
@@ -124,10 +124,10 @@ returns-in-Some-refusal-clause-stays g c =
     let after = g.B.Bank.faults_of c.settle-settled.new.bank in
     let roles = c.newly_unassigned-roles.result in
     let spares = c.settle-settled.result.spares in
-    let since : AreLostSince a.members m roles spares before after = lost-since (g.B.Bank.given a.bank) a.members m c.shape_in-disks.result.disks c.unassigned_roles-before.result roles spares before after here.placed did.moved did.failed
+    let since : AreLostSince a.members m roles spares before after = lost-since (g.B.Bank.given a.bank) a.members m c.shape_in-disks.result.disks c.unassigned_roles-before.result roles spares before after here.placed did.keeps.moved did.keeps.failed
     (ap (λ (s : Shape). s.disks) c.shape_in-disks.ensures ∙ sym (count-still a.members.newest here.still)) c.unassigned_roles-before.ensures c.newly_unassigned-roles.ensures in
-    rw (← c.still.view_is) (kept-more (planned-same a.ahead (shapes-moved did.moved))
-    (steps-kept a.work c.args.who c.ops-end.result (Refused c.in-Some-refusal.refusal ∷ []) did.moved since c.append_after_losses.ensures.items))
+    rw (← c.still.view_is) (kept-more (planned-same a.ahead (shapes-moved did.keeps.moved))
+    (steps-kept a.work c.args.who c.ops-end.result (Refused c.in-Some-refusal.refusal ∷ []) did.keeps.moved since c.append_after_losses.ensures.items))
 
 pub returns-in-Some-refusal-clause-caused : goal.returns-in-Some-refusal-clause-caused
 returns-in-Some-refusal-clause-caused g c =
@@ -138,10 +138,10 @@ returns-in-Some-refusal-clause-caused g c =
     rw (← c.still.view_is) (refused-for (list_length a.members.newest) 0 AreTooMany a.members m refusal (too-many-of m refusal many) (omega arith) many)
 
 pub returns-in-Some-refusal-clause-held : goal.returns-in-Some-refusal-clause-held
-returns-in-Some-refusal-clause-held g c = subst (λ p. AreStillHeld p.parts.members c.settle-settled.new.members) c.still.view_is c.settle-settled.ensures.moved.held
+returns-in-Some-refusal-clause-held g c = subst (λ p. AreStillHeld p.parts.members c.settle-settled.new.members) c.still.view_is c.settle-settled.ensures.keeps.moved.held
 
 pub returns-in-Some-refusal-clause-spares : goal.returns-in-Some-refusal-clause-spares
-returns-in-Some-refusal-clause-spares g c = subst (λ p. AreSparesFewer p.parts.members c.settle-settled.new.members) c.still.view_is c.settle-settled.ensures.moved.fewer
+returns-in-Some-refusal-clause-spares g c = subst (λ p. AreSparesFewer p.parts.members c.settle-settled.new.members) c.still.view_is c.settle-settled.ensures.keeps.moved.fewer
 
 -- ---- ended
 
@@ -163,13 +163,13 @@ invariant_of-still-2 g c =
     let spares = c.settle-settled.result.spares in
     let end = c.ops-end.result in
     let left = c.all_left-left.result in
-    let since : AreLostSince a.members m roles spares before after = lost-since given a.members m c.shape_in-disks.result.disks c.unassigned_roles-before.result roles spares before after here.placed did.moved did.failed
+    let since : AreLostSince a.members m roles spares before after = lost-since given a.members m c.shape_in-disks.result.disks c.unassigned_roles-before.result roles spares before after here.placed did.keeps.moved did.keeps.failed
     (ap (λ (s : Shape). s.disks) c.shape_in-disks.ensures ∙ sym (count-still a.members.newest here.still)) c.unassigned_roles-before.ensures c.newly_unassigned-roles.ensures in
     let leaves : IsFlushedStill g.B.Bank.tells given (g.B.Bank.tape a.bank) (g.B.Bank.tape c.settle-settled.new.bank) a.members m roles spares before after false = record {
-      moved = did.moved;
+      moved = did.keeps.moved;
       since = since;
-      grows = did.grows;
-      rise = risen-told did.rise;
+      grows = did.keeps.bank.grows;
+      rise = risen-told did.keeps.rise;
       others = did.others;
       safe = did.safe;
     } in
@@ -178,11 +178,11 @@ invariant_of-still-2 g c =
       stays = did.stays;
       settled = did.settled c.in_default-refusal.is;
     } in
-    ready (entries_of c.args.who end (losses_of roles spares ++ Step ResyncEnded left ∷ [])) was (rows-moved given a.members m did.moved)
+    ready (entries_of c.args.who end (losses_of roles spares ++ Step ResyncEnded left ∷ [])) was (rows-moved given a.members m did.keeps.moved)
     (resync-done a.ahead c.args.who end roles spares was.kept c.in_default.ensures goes c.requires.caller c.ops-end.ensures.count all leaves left c.all_left-left.ensures plans done)
-    (resynced-plain was c.args.who end goes c.requires.caller c.ops-end.ensures.count did.grows did.moved since left all c.all_left-left.ensures)
-    did.counts (behind-keeps c.args.who end roles spares (Step ResyncEnded left ∷ []) (alone-keeps c.args.who end (Step ResyncEnded left) (λ n. refl) (λ limit. refl)))
-    did.given (scope-same given a.backup did.given c.append_after_losses-2.ensures.uuid c.append_after_losses-2.ensures.given) c.append_after_losses-2.ensures.first refl c.append_after_losses-2.ensures.items
+    (resynced-plain was c.args.who end goes c.requires.caller c.ops-end.ensures.count did.keeps.bank.grows did.keeps.moved since left all c.all_left-left.ensures)
+    did.keeps.bank.counts (behind-keeps c.args.who end roles spares (Step ResyncEnded left ∷ []) (alone-keeps c.args.who end (Step ResyncEnded left) (λ n. refl) (λ limit. refl)))
+    did.keeps.bank.same (scope-same given a.backup did.keeps.bank.same c.append_after_losses-2.ensures.uuid c.append_after_losses-2.ensures.given) c.append_after_losses-2.ensures.first refl c.append_after_losses-2.ensures.items
     (room-after was.room_left some c.append_after_losses-2.ensures.room)
 
 pub returns-clause-stepped : goal.returns-clause-stepped
@@ -199,13 +199,13 @@ returns-clause-stepped g c =
     let spares = c.settle-settled.result.spares in
     let end = c.ops-end.result in
     let event = Step ResyncEnded c.all_left-left.result in
-    let since : AreLostSince a.members m roles spares before after = lost-since given a.members m c.shape_in-disks.result.disks c.unassigned_roles-before.result roles spares before after here.placed did.moved did.failed
+    let since : AreLostSince a.members m roles spares before after = lost-since given a.members m c.shape_in-disks.result.disks c.unassigned_roles-before.result roles spares before after here.placed did.keeps.moved did.keeps.failed
     (ap (λ (s : Shape). s.disks) c.shape_in-disks.ensures ∙ sym (count-still a.members.newest here.still)) c.unassigned_roles-before.ensures c.newly_unassigned-roles.ensures in
-    rw (← c.still.view_is) (stepped did.grows (shapes-moved did.moved)
+    rw (← c.still.view_is) (stepped did.keeps.bank.grows (shapes-moved did.keeps.moved)
     (ended-behind (g.B.Bank.tape c.settle-settled.new.bank) c.append_after_losses-2.new.epoch.first a.epoch.entries.items c.args.who end (losses_of roles spares) event c.append_after_losses-2.ensures.items c.ops-end.ensures.count)
-    did.failed.roles
+    did.keeps.failed.roles
     (losses-behind a.members m before after a.epoch.entries.items a.epoch.entries.items c.append_after_losses-2.new.epoch.entries.items c.args.who end roles spares event since tt refl c.append_after_losses-2.ensures.items)
-    did.counts
+    did.keeps.bank.counts
     (record { uuid = c.append_after_losses-2.ensures.uuid; given = c.append_after_losses-2.ensures.given; first = c.append_after_losses-2.ensures.first; backup = refl; ahead = refl; limit = refl })
     (λ t. (was.kept.recorded t).begun))
 
@@ -221,10 +221,10 @@ returns-clause-left g c =
     let after = g.B.Bank.faults_of c.settle-settled.new.bank in
     let roles = c.newly_unassigned-roles.result in
     let spares = c.settle-settled.result.spares in
-    let since : AreLostSince a.members m roles spares before after = lost-since (g.B.Bank.given a.bank) a.members m c.shape_in-disks.result.disks c.unassigned_roles-before.result roles spares before after here.placed did.moved did.failed
+    let since : AreLostSince a.members m roles spares before after = lost-since (g.B.Bank.given a.bank) a.members m c.shape_in-disks.result.disks c.unassigned_roles-before.result roles spares before after here.placed did.keeps.moved did.keeps.failed
     (ap (λ (s : Shape). s.disks) c.shape_in-disks.ensures ∙ sym (count-still a.members.newest here.still)) c.unassigned_roles-before.ensures c.newly_unassigned-roles.ensures in
-    rw (← c.still.view_is) (fewer-more (planned-same a.ahead (shapes-moved did.moved))
-    (steps-fewer (record a.work { resync = None }) (left_of a.work a.members) c.args.who c.ops-end.result (Step ResyncEnded c.all_left-left.result ∷ []) did.moved since
+    rw (← c.still.view_is) (fewer-more (planned-same a.ahead (shapes-moved did.keeps.moved))
+    (steps-fewer (record a.work { resync = None }) (left_of a.work a.members) c.args.who c.ops-end.result (Step ResyncEnded c.all_left-left.result ∷ []) did.keeps.moved since
     (left-ended a.work a.members all) c.append_after_losses-2.ensures.items))
 
 pub returns-clause-caused : goal.returns-clause-caused
@@ -237,10 +237,10 @@ pub returns-clause-flushed : goal.returns-clause-flushed
 returns-clause-flushed g c = subst (λ p. g.B.Bank.tells → AreHoldersFlushed (reading_of c.settle-settled.new.members) (g.B.Bank.given p.parts.bank) (g.B.Bank.tape c.settle-settled.new.bank)) c.still.view_is c.settle-settled.ensures.flushed
 
 pub returns-clause-held : goal.returns-clause-held
-returns-clause-held g c = subst (λ p. AreStillHeld p.parts.members c.settle-settled.new.members) c.still.view_is c.settle-settled.ensures.moved.held
+returns-clause-held g c = subst (λ p. AreStillHeld p.parts.members c.settle-settled.new.members) c.still.view_is c.settle-settled.ensures.keeps.moved.held
 
 pub returns-clause-spares : goal.returns-clause-spares
-returns-clause-spares g c = subst (λ p. AreSparesFewer p.parts.members c.settle-settled.new.members) c.still.view_is c.settle-settled.ensures.moved.fewer
+returns-clause-spares g c = subst (λ p. AreSparesFewer p.parts.members c.settle-settled.new.members) c.still.view_is c.settle-settled.ensures.keeps.moved.fewer
 
 -- ---- the call goes on
 
@@ -262,22 +262,22 @@ pub unassigned_roles-before-requires-clause-few : goal.unassigned_roles-before-r
 unassigned_roles-before-requires-clause-few g c = few-at c.still.invariant.kept.members_are.placed c.shape_in-disks.ensures
 
 pub newly_unassigned-roles-requires-clause-known : goal.newly_unassigned-roles-requires-clause-known
-newly_unassigned-roles-requires-clause-known g c = known-behind c.settle-settled.ensures.moved c.shape_in-disks.ensures
+newly_unassigned-roles-requires-clause-known g c = known-behind c.settle-settled.ensures.keeps.moved c.shape_in-disks.ensures
 
 pub newly_unassigned-roles-requires-clause-few : goal.newly_unassigned-roles-requires-clause-few
 newly_unassigned-roles-requires-clause-few g c = few-at c.still.invariant.kept.members_are.placed c.shape_in-disks.ensures
 
 pub all_left-left-requires-clause-shape : goal.all_left-left-requires-clause-shape
-all_left-left-requires-clause-shape g c = c.settle-settled.ensures.moved.placed.fit.valid.old
+all_left-left-requires-clause-shape g c = c.settle-settled.ensures.keeps.moved.placed.fit.valid.old
 
 pub all_left-left-requires-clause-size : goal.all_left-left-requires-clause-size
-all_left-left-requires-clause-size g c = short (g.B.Bank.given c.still.inside.bank) c.settle-settled.new.members c.settle-settled.ensures.moved.placed
+all_left-left-requires-clause-size g c = short (g.B.Bank.given c.still.inside.bank) c.settle-settled.new.members c.settle-settled.ensures.keeps.moved.placed
 
 pub all_left-left-requires-clause-roles : goal.all_left-left-requires-clause-roles
-all_left-left-requires-clause-roles g c = known-at c.settle-settled.ensures.moved.placed refl
+all_left-left-requires-clause-roles g c = known-at c.settle-settled.ensures.keeps.moved.placed refl
 
 pub all_left-left-requires-clause-sound : goal.all_left-left-requires-clause-sound
-all_left-left-requires-clause-sound g c = sound-behind c.still.inside.ahead c.settle-settled.ensures.moved c.still.invariant.planned
+all_left-left-requires-clause-sound g c = sound-behind c.still.inside.ahead c.settle-settled.ensures.keeps.moved c.still.invariant.planned
 
 pub append_after_losses-requires-clause-room : goal.append_after_losses-requires-clause-room
 append_after_losses-requires-clause-room g c = room-for-step (ap (λ p. p.parts.steps) c.still.view_is) c.still.invariant.room_left c.requires.room
@@ -306,7 +306,7 @@ pub returns-in-Some-refusal-clause-room : goal.returns-in-Some-refusal-clause-ro
 returns-in-Some-refusal-clause-room g c = step-taken (ap (λ p. p.parts.steps) c.still.view_is) c.requires.room
 
 pub returns-in-Some-refusal-clause-given : goal.returns-in-Some-refusal-clause-given
-returns-in-Some-refusal-clause-given g c = c.settle-settled.ensures.given ∙ ap (λ p. g.B.Bank.given p.parts.bank) c.still.view_is
+returns-in-Some-refusal-clause-given g c = c.settle-settled.ensures.keeps.bank.same ∙ ap (λ p. g.B.Bank.given p.parts.bank) c.still.view_is
 
 pub returns-clause-entered : goal.returns-clause-entered
 returns-clause-entered g c = step-behind c.args.who c.ops-end.result c.newly_unassigned-roles.result c.settle-settled.result.spares ResyncEnded (ap (λ p. p.parts.entries) c.still.view_is) c.all_left-left.ensures c.append_after_losses-2.ensures.items
@@ -324,4 +324,14 @@ pub returns-clause-room : goal.returns-clause-room
 returns-clause-room g c = step-taken (ap (λ p. p.parts.steps) c.still.view_is) c.requires.room
 
 pub returns-clause-given : goal.returns-clause-given
-returns-clause-given g c = c.settle-settled.ensures.given ∙ ap (λ p. g.B.Bank.given p.parts.bank) c.still.view_is
+returns-clause-given g c = c.settle-settled.ensures.keeps.bank.same ∙ ap (λ p. g.B.Bank.given p.parts.bank) c.still.view_is
+
+pub flush_and_mark-settled-requires : goal.flush_and_mark-settled-requires
+flush_and_mark-settled-requires g c = record {
+  stands = record {
+    slots = c.still.invariant.kept.slots;
+    placed = c.still.invariant.kept.members_are.placed;
+    unlost = c.still.invariant.kept.members_are.unlost;
+    free = c.still.invariant.kept.members_are.free;
+  };
+}

@@ -93,28 +93,28 @@ invariant_of-still g c =
     let does = does-without a.members (λ refusal many. c.in_default.ensures.why refusal (inl many)) in
     let shape = c.shape_in-shape.result in
     let refusal = c.in-Some-refusal.refusal in
-    let since : AreLostSince a.members m roles spares before after = lost-since given a.members m shape.disks c.unassigned_roles-before.result roles spares before after here.placed did.moved did.failed
+    let since : AreLostSince a.members m roles spares before after = lost-since given a.members m shape.disks c.unassigned_roles-before.result roles spares before after here.placed did.keeps.moved did.keeps.failed
     (ap (λ (s : Shape). s.disks) c.shape_in-shape.ensures ∙ sym (count-still a.members.newest here.still)) c.unassigned_roles-before.ensures c.newly_unassigned-roles.ensures in
     let leaves : IsResyncingStill g.B.Bank.tells given (g.B.Bank.tape a.bank) (g.B.Bank.tape c.mend-mended.new.bank) a.members m roles spares before after shape stripe = record {
-      moved = did.moved;
+      moved = did.keeps.moved;
       since = since;
-      grows = did.grows;
+      grows = did.keeps.bank.grows;
       dirty = did.dirty;
-      rise = risen-told did.rise;
+      rise = risen-told did.keeps.rise;
       stands = did.stands;
       others = did.others;
       kept = did.kept;
       rebuilt = did.rebuilt;
       safe = did.safe;
     } in
-    with-buffers (omega (arith, was.rows_fit, did.rows)) (rw did.buffer was.buffer_fits) (ready (entries_of c.args.who end (losses_of roles spares ++ Refused refusal ∷ [])) was (rows-moved given a.members m did.moved)
+    with-buffers (omega (arith, was.rows_fit, did.rows)) (rw did.buffer was.buffer_fits) (ready (entries_of c.args.who end (losses_of roles spares ++ Refused refusal ∷ [])) was (rows-moved given a.members m did.keeps.moved)
     (mend-refused a.ahead c.args.who end roles spares shape stripe was.kept does goes c.requires.caller c.ops-end.ensures.count c.shape_in-shape.ensures next.0 leaves refusal
     (refused-of (IsUnwritten shape false m) c.mend-mended.result.refusal refusal c.in-Some-refusal.is did.refused))
-    (plain-refused was c.args.who end goes c.requires.caller c.ops-end.ensures.count did.grows did.moved since refusal
-    (unmended-plain given a.members m did.moved a.work.resync (visible_size a.members a.limit) stripe shape refusal c.shape_in-shape.ensures next.0
+    (plain-refused was c.args.who end goes c.requires.caller c.ops-end.ensures.count did.keeps.bank.grows did.keeps.moved since refusal
+    (unmended-plain given a.members m did.keeps.moved a.work.resync (visible_size a.members a.limit) stripe shape refusal c.shape_in-shape.ensures next.0
     (refused-of (IsUnwritten shape false m) c.mend-mended.result.refusal refusal c.in-Some-refusal.is did.refused)))
-    did.counts (behind-keeps c.args.who end roles spares (Refused refusal ∷ []) (alone-keeps c.args.who end (Refused refusal) (λ n. refl) (λ limit. refl)))
-    did.given (scope-same given a.backup did.given c.append_after_losses.ensures.uuid c.append_after_losses.ensures.given) c.append_after_losses.ensures.first refl c.append_after_losses.ensures.items
+    did.keeps.bank.counts (behind-keeps c.args.who end roles spares (Refused refusal ∷ []) (alone-keeps c.args.who end (Refused refusal) (λ n. refl) (λ limit. refl)))
+    did.keeps.bank.same (scope-same given a.backup did.keeps.bank.same c.append_after_losses.ensures.uuid c.append_after_losses.ensures.given) c.append_after_losses.ensures.first refl c.append_after_losses.ensures.items
     (omega (arith, c.append_after_losses.ensures.room, was.room_left, some)))
 
 pub returns-in-Some-refusal-clause-stepped : goal.returns-in-Some-refusal-clause-stepped
@@ -131,13 +131,13 @@ returns-in-Some-refusal-clause-stepped g c =
     let spares = c.mend-mended.result.spares in
     let end = c.ops-end.result in
     let refusal = c.in-Some-refusal.refusal in
-    let since : AreLostSince a.members m roles spares before after = lost-since given a.members m c.shape_in-shape.result.disks c.unassigned_roles-before.result roles spares before after here.placed did.moved did.failed
+    let since : AreLostSince a.members m roles spares before after = lost-since given a.members m c.shape_in-shape.result.disks c.unassigned_roles-before.result roles spares before after here.placed did.keeps.moved did.keeps.failed
     (ap (λ (s : Shape). s.disks) c.shape_in-shape.ensures ∙ sym (count-still a.members.newest here.still)) c.unassigned_roles-before.ensures c.newly_unassigned-roles.ensures in
-    rw (← c.still.view_is) (stepped did.grows (shapes-moved did.moved)
+    rw (← c.still.view_is) (stepped did.keeps.bank.grows (shapes-moved did.keeps.moved)
     (ended-behind (g.B.Bank.tape c.mend-mended.new.bank) c.append_after_losses.new.epoch.first a.epoch.entries.items c.args.who end (losses_of roles spares) (Refused refusal) c.append_after_losses.ensures.items c.ops-end.ensures.count)
-    did.failed.roles
+    did.keeps.failed.roles
     (losses-behind a.members m before after a.epoch.entries.items a.epoch.entries.items c.append_after_losses.new.epoch.entries.items c.args.who end roles spares (Refused refusal) since tt refl c.append_after_losses.ensures.items)
-    did.counts
+    did.keeps.bank.counts
     (record { uuid = c.append_after_losses.ensures.uuid; given = c.append_after_losses.ensures.given; first = c.append_after_losses.ensures.first; backup = refl; ahead = refl; limit = refl })
     (λ t. (was.kept.recorded t).begun))
 
@@ -152,10 +152,10 @@ returns-in-Some-refusal-clause-stays g c =
     let after = g.B.Bank.faults_of c.mend-mended.new.bank in
     let roles = c.newly_unassigned-roles.result in
     let spares = c.mend-mended.result.spares in
-    let since : AreLostSince a.members m roles spares before after = lost-since (g.B.Bank.given a.bank) a.members m c.shape_in-shape.result.disks c.unassigned_roles-before.result roles spares before after here.placed did.moved did.failed
+    let since : AreLostSince a.members m roles spares before after = lost-since (g.B.Bank.given a.bank) a.members m c.shape_in-shape.result.disks c.unassigned_roles-before.result roles spares before after here.placed did.keeps.moved did.keeps.failed
     (ap (λ (s : Shape). s.disks) c.shape_in-shape.ensures ∙ sym (count-still a.members.newest here.still)) c.unassigned_roles-before.ensures c.newly_unassigned-roles.ensures in
-    rw (← c.still.view_is) (kept-more (planned-same a.ahead (shapes-moved did.moved))
-    (steps-kept a.work c.args.who c.ops-end.result (Refused c.in-Some-refusal.refusal ∷ []) did.moved since c.append_after_losses.ensures.items))
+    rw (← c.still.view_is) (kept-more (planned-same a.ahead (shapes-moved did.keeps.moved))
+    (steps-kept a.work c.args.who c.ops-end.result (Refused c.in-Some-refusal.refusal ∷ []) did.keeps.moved since c.append_after_losses.ensures.items))
 
 pub returns-in-Some-refusal-clause-caused : goal.returns-in-Some-refusal-clause-caused
 returns-in-Some-refusal-clause-caused g c =
@@ -165,7 +165,7 @@ returns-in-Some-refusal-clause-caused g c =
     let shape = c.shape_in-shape.result in
     let why = refused-of (IsUnwritten shape false m) c.mend-mended.result.refusal refusal c.in-Some-refusal.is c.mend-mended.ensures.refused in
     rw (← c.still.view_is) (refused-for (list_length a.members.newest) 0 IsUnmendable a.members m refusal (unwritten-of shape false m refusal why) (omega arith)
-    (unmendable-of shape m refusal (c.shape_in-shape.ensures ∙ sym c.mend-mended.ensures.moved.shape) why))
+    (unmendable-of shape m refusal (c.shape_in-shape.ensures ∙ sym c.mend-mended.ensures.keeps.moved.shape) why))
 
 pub returns-in-Some-refusal-clause-first : goal.returns-in-Some-refusal-clause-first
 returns-in-Some-refusal-clause-first g c =
@@ -197,26 +197,26 @@ invariant_of-still-2 g c =
     let does = does-without a.members (λ refusal many. c.in_default.ensures.why refusal (inl many)) in
     let shape = c.shape_in-shape.result in
     let left = c.all_left-left.result in
-    let since : AreLostSince a.members m roles spares before after = lost-since given a.members m shape.disks c.unassigned_roles-before.result roles spares before after here.placed did.moved did.failed
+    let since : AreLostSince a.members m roles spares before after = lost-since given a.members m shape.disks c.unassigned_roles-before.result roles spares before after here.placed did.keeps.moved did.keeps.failed
     (ap (λ (s : Shape). s.disks) c.shape_in-shape.ensures ∙ sym (count-still a.members.newest here.still)) c.unassigned_roles-before.ensures c.newly_unassigned-roles.ensures in
     let leaves : IsResyncingStill g.B.Bank.tells given (g.B.Bank.tape a.bank) (g.B.Bank.tape c.mend-mended.new.bank) a.members m roles spares before after shape stripe = record {
-      moved = did.moved;
+      moved = did.keeps.moved;
       since = since;
-      grows = did.grows;
+      grows = did.keeps.bank.grows;
       dirty = did.dirty;
-      rise = risen-told did.rise;
+      rise = risen-told did.keeps.rise;
       stands = did.stands;
       others = did.others;
       kept = did.kept;
       rebuilt = did.rebuilt;
       safe = did.safe;
     } in
-    with-buffers (omega (arith, was.rows_fit, did.rows)) (rw did.buffer was.buffer_fits) (ready (entries_of c.args.who end (losses_of roles spares ++ Step ResyncStripe left ∷ [])) was (rows-moved given a.members m did.moved)
+    with-buffers (omega (arith, was.rows_fit, did.rows)) (rw did.buffer was.buffer_fits) (ready (entries_of c.args.who end (losses_of roles spares ++ Step ResyncStripe left ∷ [])) was (rows-moved given a.members m did.keeps.moved)
     (mend-done a.ahead c.args.who end roles spares shape stripe was.kept does goes c.requires.caller c.ops-end.ensures.count c.shape_in-shape.ensures next.0 leaves left next.1 c.all_left-left.ensures
     (did.mended c.in_default-refusal.is))
-    (mended-plain was c.args.who end goes c.requires.caller c.ops-end.ensures.count did.grows did.moved since left stripe next.0 next.1 c.all_left-left.ensures)
-    did.counts (behind-keeps c.args.who end roles spares (Step ResyncStripe left ∷ []) (alone-keeps c.args.who end (Step ResyncStripe left) (λ n. refl) (λ limit. refl)))
-    did.given (scope-same given a.backup did.given c.append_after_losses-2.ensures.uuid c.append_after_losses-2.ensures.given) c.append_after_losses-2.ensures.first refl c.append_after_losses-2.ensures.items
+    (mended-plain was c.args.who end goes c.requires.caller c.ops-end.ensures.count did.keeps.bank.grows did.keeps.moved since left stripe next.0 next.1 c.all_left-left.ensures)
+    did.keeps.bank.counts (behind-keeps c.args.who end roles spares (Step ResyncStripe left ∷ []) (alone-keeps c.args.who end (Step ResyncStripe left) (λ n. refl) (λ limit. refl)))
+    did.keeps.bank.same (scope-same given a.backup did.keeps.bank.same c.append_after_losses-2.ensures.uuid c.append_after_losses-2.ensures.given) c.append_after_losses-2.ensures.first refl c.append_after_losses-2.ensures.items
     (omega (arith, c.append_after_losses-2.ensures.room, was.room_left, some)))
 
 pub returns-clause-stepped : goal.returns-clause-stepped
@@ -233,13 +233,13 @@ returns-clause-stepped g c =
     let spares = c.mend-mended.result.spares in
     let end = c.ops-end.result in
     let event = Step ResyncStripe c.all_left-left.result in
-    let since : AreLostSince a.members m roles spares before after = lost-since given a.members m c.shape_in-shape.result.disks c.unassigned_roles-before.result roles spares before after here.placed did.moved did.failed
+    let since : AreLostSince a.members m roles spares before after = lost-since given a.members m c.shape_in-shape.result.disks c.unassigned_roles-before.result roles spares before after here.placed did.keeps.moved did.keeps.failed
     (ap (λ (s : Shape). s.disks) c.shape_in-shape.ensures ∙ sym (count-still a.members.newest here.still)) c.unassigned_roles-before.ensures c.newly_unassigned-roles.ensures in
-    rw (← c.still.view_is) (stepped did.grows (shapes-moved did.moved)
+    rw (← c.still.view_is) (stepped did.keeps.bank.grows (shapes-moved did.keeps.moved)
     (ended-behind (g.B.Bank.tape c.mend-mended.new.bank) c.append_after_losses-2.new.epoch.first a.epoch.entries.items c.args.who end (losses_of roles spares) event c.append_after_losses-2.ensures.items c.ops-end.ensures.count)
-    did.failed.roles
+    did.keeps.failed.roles
     (losses-behind a.members m before after a.epoch.entries.items a.epoch.entries.items c.append_after_losses-2.new.epoch.entries.items c.args.who end roles spares event since tt refl c.append_after_losses-2.ensures.items)
-    did.counts
+    did.keeps.bank.counts
     (record { uuid = c.append_after_losses-2.ensures.uuid; given = c.append_after_losses-2.ensures.given; first = c.append_after_losses-2.ensures.first; backup = refl; ahead = refl; limit = refl })
     (λ t. (was.kept.recorded t).begun))
 
@@ -257,10 +257,10 @@ returns-clause-left g c =
     let spares = c.mend-mended.result.spares in
     let stripe = c.unwrap_or-stripe.result in
     let next = next-stripe a.work.resync a.members stripe pending c.unwrap_or-stripe.ensures in
-    let since : AreLostSince a.members m roles spares before after = lost-since (g.B.Bank.given a.bank) a.members m c.shape_in-shape.result.disks c.unassigned_roles-before.result roles spares before after here.placed did.moved did.failed
+    let since : AreLostSince a.members m roles spares before after = lost-since (g.B.Bank.given a.bank) a.members m c.shape_in-shape.result.disks c.unassigned_roles-before.result roles spares before after here.placed did.keeps.moved did.keeps.failed
     (ap (λ (s : Shape). s.disks) c.shape_in-shape.ensures ∙ sym (count-still a.members.newest here.still)) c.unassigned_roles-before.ensures c.newly_unassigned-roles.ensures in
-    rw (← c.still.view_is) (fewer-more (planned-same a.ahead (shapes-moved did.moved))
-    (steps-fewer (record a.work { resync = Some (stripe + 1) }) (left_of a.work a.members) c.args.who c.ops-end.result (Step ResyncStripe c.all_left-left.result ∷ []) did.moved since
+    rw (← c.still.view_is) (fewer-more (planned-same a.ahead (shapes-moved did.keeps.moved))
+    (steps-fewer (record a.work { resync = Some (stripe + 1) }) (left_of a.work a.members) c.args.who c.ops-end.result (Step ResyncStripe c.all_left-left.result ∷ []) did.keeps.moved since
     (left-mended a.work a.members stripe next.0 next.1) c.append_after_losses-2.ensures.items))
 
 pub returns-clause-caused : goal.returns-clause-caused
@@ -294,8 +294,8 @@ unassigned_roles-before-requires-clause-known g c = shape-known (g.B.Bank.given 
 pub unassigned_roles-before-requires-clause-few : goal.unassigned_roles-before-requires-clause-few
 unassigned_roles-before-requires-clause-few g c = shape-few (g.B.Bank.given c.still.inside.bank) c.still.inside.members c.still.invariant.kept.members_are.placed c.shape_in-shape.result c.shape_in-shape.ensures
 
-pub resync_rows-mended-requires-clause-slots : goal.resync_rows-mended-requires-clause-slots
-resync_rows-mended-requires-clause-slots g c = c.still.invariant.kept.slots
+pub resync_rows-mended-requires-clause-stands : goal.resync_rows-mended-requires-clause-stands
+resync_rows-mended-requires-clause-stands g c = record { slots = c.still.invariant.kept.slots; placed = c.still.invariant.kept.members_are.placed; unlost = c.still.invariant.kept.members_are.unlost; free = c.still.invariant.kept.members_are.free }
 
 pub resync_rows-mended-requires-clause-rows : goal.resync_rows-mended-requires-clause-rows
 resync_rows-mended-requires-clause-rows g c = c.still.invariant.rows_fit
@@ -305,7 +305,7 @@ resync_rows-mended-requires-clause-buffer g c = c.still.invariant.buffer_fits
 
 pub newly_unassigned-roles-requires-clause-known : goal.newly_unassigned-roles-requires-clause-known
 newly_unassigned-roles-requires-clause-known g c =
-    let moved = c.mend-mended.ensures.moved in
+    let moved = c.mend-mended.ensures.keeps.moved in
     shape-known (g.B.Bank.given c.still.inside.bank) c.mend-mended.new.members moved.placed c.shape_in-shape.result (c.shape_in-shape.ensures ∙ sym moved.shape)
 
 pub newly_unassigned-roles-requires-clause-few : goal.newly_unassigned-roles-requires-clause-few
@@ -332,7 +332,7 @@ pub returns-in-Some-refusal-clause-room : goal.returns-in-Some-refusal-clause-ro
 returns-in-Some-refusal-clause-room g c = one-less c.still.inside.steps c.args.still.now.parts.steps (ap (λ p. p.parts.steps) c.still.view_is) c.requires.room
 
 pub returns-in-Some-refusal-clause-given : goal.returns-in-Some-refusal-clause-given
-returns-in-Some-refusal-clause-given g c = c.mend-mended.ensures.given ∙ ap (λ p. g.B.Bank.given p.parts.bank) c.still.view_is
+returns-in-Some-refusal-clause-given g c = c.mend-mended.ensures.keeps.bank.same ∙ ap (λ p. g.B.Bank.given p.parts.bank) c.still.view_is
 
 pub overflow_add-still : goal.overflow_add-still
 overflow_add-still g c =
@@ -341,24 +341,24 @@ overflow_add-still g c =
     stripe-fits (g.B.Bank.given a.bank) a.members c.still.invariant.kept.members_are.placed c.unwrap_or-stripe.result (next-stripe a.work.resync a.members c.unwrap_or-stripe.result left c.unwrap_or-stripe.ensures).1
 
 pub all_left-left-requires-clause-shape : goal.all_left-left-requires-clause-shape
-all_left-left-requires-clause-shape g c = valid (g.B.Bank.given c.still.inside.bank) c.mend-mended.new.members c.mend-mended.ensures.moved.placed
+all_left-left-requires-clause-shape g c = valid (g.B.Bank.given c.still.inside.bank) c.mend-mended.new.members c.mend-mended.ensures.keeps.moved.placed
 
 pub all_left-left-requires-clause-size : goal.all_left-left-requires-clause-size
-all_left-left-requires-clause-size g c = short (g.B.Bank.given c.still.inside.bank) c.mend-mended.new.members c.mend-mended.ensures.moved.placed
+all_left-left-requires-clause-size g c = short (g.B.Bank.given c.still.inside.bank) c.mend-mended.new.members c.mend-mended.ensures.keeps.moved.placed
 
 pub all_left-left-requires-clause-roles : goal.all_left-left-requires-clause-roles
 all_left-left-requires-clause-roles g c =
     let m = c.mend-mended.new.members in
-    shape-known (g.B.Bank.given c.still.inside.bank) m c.mend-mended.ensures.moved.placed (shape_of m.newest) refl
+    shape-known (g.B.Bank.given c.still.inside.bank) m c.mend-mended.ensures.keeps.moved.placed (shape_of m.newest) refl
 
 pub all_left-left-requires-clause-progress : goal.all_left-left-requires-clause-progress
 all_left-left-requires-clause-progress g c =
     let a = c.still.inside in
     let left : HasStripeLeft a.work.resync a.members = subst (λ p. HasStripeLeft p.parts.work.resync p.parts.members) (sym c.still.view_is) c.requires.pending in
-    stripe-more c.unwrap_or-stripe.result c.mend-mended.ensures.moved (next-stripe a.work.resync a.members c.unwrap_or-stripe.result left c.unwrap_or-stripe.ensures).1
+    stripe-more c.unwrap_or-stripe.result c.mend-mended.ensures.keeps.moved (next-stripe a.work.resync a.members c.unwrap_or-stripe.result left c.unwrap_or-stripe.ensures).1
 
 pub all_left-left-requires-clause-sound : goal.all_left-left-requires-clause-sound
-all_left-left-requires-clause-sound g c = sound-behind c.still.inside.ahead c.mend-mended.ensures.moved c.still.invariant.planned
+all_left-left-requires-clause-sound g c = sound-behind c.still.inside.ahead c.mend-mended.ensures.keeps.moved c.still.invariant.planned
 
 pub append_after_losses-requires-2-clause-room : goal.append_after_losses-requires-2-clause-room
 append_after_losses-requires-2-clause-room g c = room-of-step c.still.inside.steps c.still.inside.epoch.entries.room c.still.invariant.room_left (subst (λ p. 1 ≤ p.parts.steps) (sym c.still.view_is) c.requires.room)
@@ -400,18 +400,18 @@ pub returns-clause-room : goal.returns-clause-room
 returns-clause-room g c = one-less c.still.inside.steps c.args.still.now.parts.steps (ap (λ p. p.parts.steps) c.still.view_is) c.requires.room
 
 pub returns-clause-given : goal.returns-clause-given
-returns-clause-given g c = c.mend-mended.ensures.given ∙ ap (λ p. g.B.Bank.given p.parts.bank) c.still.view_is
+returns-clause-given g c = c.mend-mended.ensures.keeps.bank.same ∙ ap (λ p. g.B.Bank.given p.parts.bank) c.still.view_is
 
 -- ---- what it leaves of the members
 
 pub returns-in-Some-refusal-clause-held : goal.returns-in-Some-refusal-clause-held
-returns-in-Some-refusal-clause-held g c = subst (λ p. AreStillHeld p.parts.members c.mend-mended.new.members) c.still.view_is c.mend-mended.ensures.moved.held
+returns-in-Some-refusal-clause-held g c = subst (λ p. AreStillHeld p.parts.members c.mend-mended.new.members) c.still.view_is c.mend-mended.ensures.keeps.moved.held
 
 pub returns-in-Some-refusal-clause-spares : goal.returns-in-Some-refusal-clause-spares
-returns-in-Some-refusal-clause-spares g c = subst (λ p. AreSparesFewer p.parts.members c.mend-mended.new.members) c.still.view_is c.mend-mended.ensures.moved.fewer
+returns-in-Some-refusal-clause-spares g c = subst (λ p. AreSparesFewer p.parts.members c.mend-mended.new.members) c.still.view_is c.mend-mended.ensures.keeps.moved.fewer
 
 pub returns-clause-held : goal.returns-clause-held
-returns-clause-held g c = subst (λ p. AreStillHeld p.parts.members c.mend-mended.new.members) c.still.view_is c.mend-mended.ensures.moved.held
+returns-clause-held g c = subst (λ p. AreStillHeld p.parts.members c.mend-mended.new.members) c.still.view_is c.mend-mended.ensures.keeps.moved.held
 
 pub returns-clause-spares : goal.returns-clause-spares
-returns-clause-spares g c = subst (λ p. AreSparesFewer p.parts.members c.mend-mended.new.members) c.still.view_is c.mend-mended.ensures.moved.fewer
+returns-clause-spares g c = subst (λ p. AreSparesFewer p.parts.members c.mend-mended.new.members) c.still.view_is c.mend-mended.ensures.keeps.moved.fewer

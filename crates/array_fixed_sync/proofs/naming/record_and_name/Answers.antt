@@ -25,38 +25,37 @@ use Rattle.array_fixed_sync.proofs.naming.record_and_name.Goals.{After-record_mi
 use Rattle.std.proofs.Math.Nat.{le_trans}
 use Rattle.array_fixed_sync.proofs.naming.record_and_name.Goals as goal
 
-pub record_missing-others-requires-clause-placed : goal.record_missing-others-requires-clause-placed
-record_missing-others-requires-clause-placed g c =
-    let did = c.flush_and_record-spares.ensures in
-    subst (λ (b : Given). IsPlaced b c.flush_and_record-spares.new.members) (sym did.given) did.moved.placed
-
-pub record_missing-others-requires-clause-unlost : goal.record_missing-others-requires-clause-unlost
-record_missing-others-requires-clause-unlost g c = c.flush_and_record-spares.ensures.moved.unlost
-
-pub record_missing-others-requires-clause-free : goal.record_missing-others-requires-clause-free
-record_missing-others-requires-clause-free g c =
+pub record_missing-others-requires : goal.record_missing-others-requires
+record_missing-others-requires g c =
     let did = c.flush_and_record-spares.ensures in
     let given = g.B.Bank.given c.args.bank.now in
     let m = c.args.members.now in
     let to = receiver-recovering given m c.requires.placed c.requires.unlost c.args.role c.args.slot c.requires.role c.requires.recovering in
-    subst (λ (b : Given). AreSparesFree b c.flush_and_record-spares.new.members) (sym did.given) (did.moved.free (free-then given m c.requires.placed None c.args.role c.args.slot to c.requires.free))
+    record {
+      stands = record {
+        slots = subst (λ (b : Given). b.slots ≤ 32) (sym c.flush_and_record-spares.ensures.bank.same) c.requires.slots;
+        placed = subst (λ (b : Given). IsPlaced b c.flush_and_record-spares.new.members) (sym did.bank.same) did.moved.placed;
+        unlost = c.flush_and_record-spares.ensures.moved.unlost;
+        free = subst (λ (b : Given). AreSparesFree b c.flush_and_record-spares.new.members) (sym did.bank.same) (did.moved.free (free-then given m c.requires.placed None c.args.role c.args.slot to c.requires.free));
+      };
+    }
 
 pub returns-clause-moved : goal.returns-clause-moved
 returns-clause-moved g c =
     let m1 = c.flush_and_record-spares.new.members in
     let did = c.flush_and_record-spares.ensures in
     moved-then (g.B.Bank.given c.args.bank.now) (with_whole c.args.role c.args.slot c.args.members.now) m1 c.record_missing-others.new.members did.moved
-    (moved-from (g.B.Bank.given c.args.bank.now) (g.B.Bank.given c.flush_and_record-spares.new.bank) m1 m1 c.record_missing-others.new.members did.given refl c.record_missing-others.ensures.moved)
+    (moved-from (g.B.Bank.given c.args.bank.now) (g.B.Bank.given c.flush_and_record-spares.new.bank) m1 m1 c.record_missing-others.new.members did.bank.same refl c.record_missing-others.ensures.keeps.moved)
 
 pub returns-clause-failed : goal.returns-clause-failed
 returns-clause-failed g c =
     let s = c.flush_and_record-spares.result in
     let t = c.record_missing-others.result in
     since-then (with_whole c.args.role c.args.slot c.args.members.now) c.flush_and_record-spares.new.members c.record_missing-others.new.members s t _ (g.B.Bank.faults_of c.args.bank.now) (g.B.Bank.faults_of c.flush_and_record-spares.new.bank)
-    (g.B.Bank.faults_of c.record_missing-others.new.bank) c.flush_and_record-spares.ensures.counts c.record_missing-others.ensures.counts c.flush_and_record-spares.ensures.failed c.record_missing-others.ensures.failed (in-either s t)
+    (g.B.Bank.faults_of c.record_missing-others.new.bank) c.flush_and_record-spares.ensures.bank.counts c.record_missing-others.ensures.keeps.bank.counts c.flush_and_record-spares.ensures.failed c.record_missing-others.ensures.keeps.failed (in-either s t)
 
 pub returns-clause-grows : goal.returns-clause-grows
-returns-clause-grows g c = grows-then c.flush_and_record-spares.ensures.grows c.record_missing-others.ensures.grows
+returns-clause-grows g c = grows-then c.flush_and_record-spares.ensures.bank.grows c.record_missing-others.ensures.keeps.bank.grows
 
 pub returns-clause-others : goal.returns-clause-others
 returns-clause-others g c = λ told s k other.
@@ -64,20 +63,20 @@ returns-clause-others g c = λ told s k other.
     let did = c.flush_and_record-spares.ensures in
     let tape1 = g.B.Bank.tape c.flush_and_record-spares.new.bank in
     let tape2 = g.B.Bank.tape c.record_missing-others.new.bank in
-    subst (λ (b : Given). AreOthersPresent (present b tape1) (present b tape2)) did.given (c.record_missing-others.ensures.others told) s k other ∙ did.others told s k other
+    subst (λ (b : Given). AreOthersPresent (present b tape1) (present b tape2)) did.bank.same (c.record_missing-others.ensures.others told) s k other ∙ did.others told s k other
 
 pub returns-clause-rise : goal.returns-clause-rise
-returns-clause-rise g c = risen-then c.flush_and_record-spares.ensures.rise c.record_missing-others.ensures.rise
+returns-clause-rise g c = risen-then c.flush_and_record-spares.ensures.rise c.record_missing-others.ensures.keeps.rise
 
 -- what was done before it keeps the array safe, by any ledger that tells what is missing then
 module _ (g : Over) (c : After-record_missing-others g) (tell : g.B.Bank.tells) (world : World) (told : Ledger) (room : HasRoomLeft c.args.members.now (g.B.Bank.tape c.args.bank.now) (g.B.Bank.tape c.record_missing-others.new.bank))
     (gone : AreGoneTold told c.record_missing-others.new.members) where
   room-before : HasRoomLeft c.args.members.now (g.B.Bank.tape c.args.bank.now) (g.B.Bank.tape c.flush_and_record-spares.new.bank)
-  room-before = room-first c.args.members.now (g.B.Bank.tape c.args.bank.now) (g.B.Bank.tape c.flush_and_record-spares.new.bank) (g.B.Bank.tape c.record_missing-others.new.bank) room (grows-longer c.record_missing-others.ensures.grows tell)
+  room-before = room-first c.args.members.now (g.B.Bank.tape c.args.bank.now) (g.B.Bank.tape c.flush_and_record-spares.new.bank) (g.B.Bank.tape c.record_missing-others.new.bank) room (grows-longer c.record_missing-others.ensures.keeps.bank.grows tell)
 
   moved-last : IsMoved (g.B.Bank.given c.args.bank.now) c.flush_and_record-spares.new.members c.record_missing-others.new.members
   moved-last = moved-from (g.B.Bank.given c.args.bank.now) (g.B.Bank.given c.flush_and_record-spares.new.bank) c.flush_and_record-spares.new.members c.flush_and_record-spares.new.members c.record_missing-others.new.members
-      c.flush_and_record-spares.ensures.given refl c.record_missing-others.ensures.moved
+      c.flush_and_record-spares.ensures.bank.same refl c.record_missing-others.ensures.keeps.moved
 
   gone-mid : AreGoneTold told c.flush_and_record-spares.new.members
   gone-mid = gone-before (g.B.Bank.given c.args.bank.now) c.flush_and_record-spares.new.members c.record_missing-others.new.members c.flush_and_record-spares.ensures.moved.placed moved-last told gone
@@ -93,8 +92,8 @@ module _ (g : Over) (c : After-record_missing-others g) (tell : g.B.Bank.tells) 
       let given1 = g.B.Bank.given c.flush_and_record-spares.new.bank in
       let tape1 = g.B.Bank.tape c.flush_and_record-spares.new.bank in
       let tape2 = g.B.Bank.tape c.record_missing-others.new.bank in
-      keeps-from world given given1 told m2 tape1 tape2 did.given
-      (c.record_missing-others.ensures.safe tell world told (room-then tape2 tell room did.rise) gone (λ dirty. unclean (sym did.clean ∙ dirty)) (over-at world given given1 told m1 tape1 did.given now))
+      keeps-from world given given1 told m2 tape1 tape2 did.bank.same
+      (c.record_missing-others.ensures.safe tell world told (room-then tape2 tell room did.rise) gone (λ dirty. unclean (sym did.clean ∙ dirty)) (over-at world given given1 told m1 tape1 did.bank.same now))
 
 pub returns-clause-safe : goal.returns-clause-safe
 returns-clause-safe g c = λ tell world told room gone here unclean premise does list stands allowed full now.
@@ -121,20 +120,21 @@ other m r role miss whole = ne r role (λ same. (
     ))
 
 -- where the role is whole still, no ledger need tell it gone
+
 pub returns-clause-given_back : goal.returns-clause-given_back
 returns-clause-given_back g c = λ whole tell world told room gone here unclean premise does list stands allowed full now.
     let role = c.args.role in
     let m2 = c.record_missing-others.new.members in
-    let was : role_state (reading_of c.flush_and_record-spares.new.members) role ≡ Whole c.args.slot = sym (c.record_missing-others.ensures.moved.states role c.args.slot (ap holder whole)) ∙ whole in
+    let was : role_state (reading_of c.flush_and_record-spares.new.members) role ≡ Whole c.args.slot = sym (c.record_missing-others.ensures.keeps.moved.states role c.args.slot (ap holder whole)) ∙ whole in
     let back = c.flush_and_record-spares.ensures.given_back was tell world told (room-before g c tell world told room gone) (gone-mid g c tell world told room gone) here unclean premise does list stands allowed full now in
     let told_back : AreGoneTold (given_back role told) m2 = (λ r lt miss. but (told.gone r) (r == role) (gone r lt miss) (other m2 r role miss whole)) in
     (named-then g c tell world (given_back role told) room told_back unclean back).next
-
-pub record_missing-others-requires-clause-slots : goal.record_missing-others-requires-clause-slots
-record_missing-others-requires-clause-slots g c = subst (λ (b : Given). b.slots ≤ 32) (sym c.flush_and_record-spares.ensures.given) c.requires.slots
 
 pub returns-clause-missing : goal.returns-clause-missing
 returns-clause-missing g c = c.record_missing-others.ensures.missing
 
 pub returns-clause-counts : goal.returns-clause-counts
-returns-clause-counts g c = λ slot. le_trans (c.flush_and_record-spares.ensures.counts slot) (c.record_missing-others.ensures.counts slot)
+returns-clause-counts g c = λ slot. le_trans (c.flush_and_record-spares.ensures.bank.counts slot) (c.record_missing-others.ensures.keeps.bank.counts slot)
+
+pub flush_and_record-spares-requires-clause-stands : goal.flush_and_record-spares-requires-clause-stands
+flush_and_record-spares-requires-clause-stands g c = record { slots = c.requires.slots; placed = c.requires.placed; unlost = c.requires.unlost; free = c.requires.free }

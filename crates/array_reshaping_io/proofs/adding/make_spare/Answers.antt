@@ -171,13 +171,13 @@ newly_unassigned-roles-requires-clause-few g c =
     let long = c.len-count.ensures in
     omega (arith, few, roles, long)
 
-pub add_member-lost-requires-clause-placed : goal.add_member-lost-requires-clause-placed
-add_member-lost-requires-clause-placed g c =
-    subst (λ (b : Given). IsPlaced b c.moving.inside.members) (sym c.look_at.ensures.given) c.moving.invariant.kept.members_are.placed
-
-pub add_member-lost-requires-clause-free : goal.add_member-lost-requires-clause-free
-add_member-lost-requires-clause-free g c =
-    subst (λ (b : Given). AreSparesFree b c.moving.inside.members) (sym c.look_at.ensures.given) c.moving.invariant.kept.members_are.free
+pub add_member-lost-requires-clause-stands : goal.add_member-lost-requires-clause-stands
+add_member-lost-requires-clause-stands g c = record {
+  slots = subst (λ (b : Given). b.slots ≤ 32) (sym c.look_at.ensures.given) c.moving.invariant.kept.slots;
+  placed = subst (λ (b : Given). IsPlaced b c.moving.inside.members) (sym c.look_at.ensures.given) c.moving.invariant.kept.members_are.placed;
+  unlost = c.moving.invariant.kept.members_are.unlost;
+  free = subst (λ (b : Given). AreSparesFree b c.moving.inside.members) (sym c.look_at.ensures.given) c.moving.invariant.kept.members_are.free;
+}
 
 pub add_member-lost-requires-clause-slot : goal.add_member-lost-requires-clause-slot
 add_member-lost-requires-clause-slot g c =
@@ -190,6 +190,7 @@ add_member-lost-requires-clause-untaken g c =
     λ role may. slot-free (g.B.Bank.given c.moving.inside.bank) (Some c.moving.inside.backup) c.args.slot c.moving.inside.members c.moving.invariant.kept.members_are.placed addable (inr (role, may))
 
 -- a slot that was lost didn't fail: then nothing that is missing is named
+
 pub add_member-lost-requires-clause-fresh : goal.add_member-lost-requires-clause-fresh
 add_member-lost-requires-clause-fresh g c =
     λ lost. subst (λ p. has_slot p.parts.members.lost c.args.slot ≡ true → g.B.Bank.faults_of p.parts.bank c.args.slot ≡ 0 → AreUnnamed p.parts.members) (sym c.moving.view_is) c.requires.fresh lost c.in-Some.ensures.sound
@@ -237,7 +238,7 @@ invariant_of-moving-then-contains g c =
     let e = c.add_member-lost.ensures in
     let look = c.look_at.ensures in
     let did = add-done look.given was.kept.slots here.placed here.unlost here.free there (λ role may. slot-free given (Some a.backup) slot a.members here.placed addable (inr (role, may))) look.counts
-    c.spare_for-sb.ensures.made e.own e.moved e.failed e.lost e.grows e.others e.clean e.rise e.counts in
+    c.spare_for-sb.ensures.made e.own e.keeps.moved e.keeps.failed e.lost e.keeps.bank.grows e.others e.clean e.keeps.rise e.keeps.bank.counts in
     let m = c.add_member-lost.new.members in
     let roles = c.newly_unassigned-roles.result in
     let spares = c.without-spares.result in
@@ -257,7 +258,7 @@ invariant_of-moving-then-contains g c =
     c.spare_for-sb.ensures.number free.1 look.tape (λ t sector may. second-half sb c.in-Some.second sector c.spare_for-sb.ensures.second (c.in-Some.ensures.second t sector may))
     (subst (λ (b : Given). g.B.Bank.tells → IsRestKept (with_spare slot sb a.members) (disk b.start mid) (disk b.start tape')) look.given e.rest)
     (subst (λ (b : Given). AddsSafe g.B.Bank.tells b slot sb a.members m mid tape') look.given e.safe) since in
-    let given_is = e.given ∙ look.given in
+    let given_is = e.keeps.bank.same ∙ look.given in
     let events = losses_of roles spares ++ Refused (SlotFault slot) ∷ [] in
     rw (c.bear.ensures) (ready-with (entries_of c.args.who end events) was (grows-then (looked-grows look.tape) did.grows) (shapes-moved given (with_spare slot sb a.members) m did.moved)
     (subst (λ (n : ℕ). IsMoving g.B.Bank.tells given tape' scope a.epoch.first (a.epoch.entries.items ++ entries_of c.args.who end events) m (bears work) a.work.resync a.course (bytes_in a.course.window a.window.items) n)
@@ -288,7 +289,7 @@ returns-then-contains-clause-caused g c =
     let e = c.add_member-lost.ensures in
     let look = c.look_at.ensures in
     let did = add-done look.given was.kept.slots here.placed here.unlost here.free there (λ role may. slot-free given (Some a.backup) slot a.members here.placed addable (inr (role, may))) look.counts
-    c.spare_for-sb.ensures.made e.own e.moved e.failed e.lost e.grows e.others e.clean e.rise e.counts in
+    c.spare_for-sb.ensures.made e.own e.keeps.moved e.keeps.failed e.lost e.keeps.bank.grows e.others e.clean e.keeps.rise e.keeps.bank.counts in
     let gone = sym c.contains.ensures ∙ c.if-contains.true in
     rw (← c.moving.view_is) (refl, addable, did.failed.spares_are slot gone, e.lost gone)
 
@@ -310,7 +311,7 @@ returns-then-contains-clause-called g c =
     let e = c.add_member-lost.ensures in
     let look = c.look_at.ensures in
     let did = add-done look.given was.kept.slots here.placed here.unlost here.free there (λ role may. slot-free given (Some a.backup) slot a.members here.placed addable (inr (role, may))) look.counts
-    c.spare_for-sb.ensures.made e.own e.moved e.failed e.lost e.grows e.others e.clean e.rise e.counts in
+    c.spare_for-sb.ensures.made e.own e.keeps.moved e.keeps.failed e.lost e.keeps.bank.grows e.others e.clean e.keeps.rise e.keeps.bank.counts in
     let m = c.add_member-lost.new.members in
     let roles = c.newly_unassigned-roles.result in
     let spares = c.without-spares.result in
@@ -339,7 +340,7 @@ returns-then-contains-clause-others g c =
     let e = c.add_member-lost.ensures in
     let look = c.look_at.ensures in
     let did = add-done look.given was.kept.slots here.placed here.unlost here.free there (λ role may. slot-free given (Some a.backup) slot a.members here.placed addable (inr (role, may))) look.counts
-    c.spare_for-sb.ensures.made e.own e.moved e.failed e.lost e.grows e.others e.clean e.rise e.counts in
+    c.spare_for-sb.ensures.made e.own e.keeps.moved e.keeps.failed e.lost e.keeps.bank.grows e.others e.clean e.keeps.rise e.keeps.bank.counts in
     rw (← c.moving.view_is) (λ t s k other. did.others t s k other ∙ (λ i. contents-added given.start (g.B.Bank.tape a.bank) (g.B.Bank.tape c.look_at.new.bank) (look.tape t) i s k))
 
 pub returns-then-contains-clause-failed : goal.returns-then-contains-clause-failed
@@ -354,7 +355,7 @@ returns-then-contains-clause-failed g c =
     let e = c.add_member-lost.ensures in
     let look = c.look_at.ensures in
     let did = add-done look.given was.kept.slots here.placed here.unlost here.free there (λ role may. slot-free given (Some a.backup) slot a.members here.placed addable (inr (role, may))) look.counts
-    c.spare_for-sb.ensures.made e.own e.moved e.failed e.lost e.grows e.others e.clean e.rise e.counts in
+    c.spare_for-sb.ensures.made e.own e.keeps.moved e.keeps.failed e.lost e.keeps.bank.grows e.others e.clean e.keeps.rise e.keeps.bank.counts in
     rw (← c.moving.view_is) did.failed.roles
 
 -- ---- where it wasn't
@@ -372,7 +373,7 @@ invariant_of-moving-2 g c =
     let e = c.add_member-lost.ensures in
     let look = c.look_at.ensures in
     let did = add-done look.given was.kept.slots here.placed here.unlost here.free there (λ role may. slot-free given (Some a.backup) slot a.members here.placed addable (inr (role, may))) look.counts
-    c.spare_for-sb.ensures.made e.own e.moved e.failed e.lost e.grows e.others e.clean e.rise e.counts in
+    c.spare_for-sb.ensures.made e.own e.keeps.moved e.keeps.failed e.lost e.keeps.bank.grows e.others e.clean e.keeps.rise e.keeps.bank.counts in
     let m = c.add_member-lost.new.members in
     let roles = c.newly_unassigned-roles.result in
     let spares = c.without-spares.result in
@@ -396,7 +397,7 @@ invariant_of-moving-2 g c =
     c.spare_for-sb.ensures.number free.1 look.tape (λ t sector may. second-half sb c.in-Some.second sector c.spare_for-sb.ensures.second (c.in-Some.ensures.second t sector may))
     (subst (λ (b : Given). g.B.Bank.tells → IsRestKept (with_spare slot sb a.members) (disk b.start mid) (disk b.start tape')) look.given e.rest)
     (subst (λ (b : Given). AddsSafe g.B.Bank.tells b slot sb a.members m mid tape') look.given e.safe) since in
-    let given_is = e.given ∙ look.given in
+    let given_is = e.keeps.bank.same ∙ look.given in
     let events = losses_of roles spares ++ Added slot ∷ [] in
     rw (c.bear-2.ensures) (ready-with (entries_of c.args.who end events) was (grows-then (looked-grows look.tape) did.grows) (shapes-moved given (with_spare slot sb a.members) m did.moved)
     (subst (λ (n : ℕ). IsMoving g.B.Bank.tells given tape' scope a.epoch.first (a.epoch.entries.items ++ entries_of c.args.who end events) m (bears work) a.work.resync a.course (bytes_in a.course.window a.window.items) n)
@@ -451,7 +452,7 @@ returns-clause-called g c =
     let e = c.add_member-lost.ensures in
     let look = c.look_at.ensures in
     let did = add-done look.given was.kept.slots here.placed here.unlost here.free there (λ role may. slot-free given (Some a.backup) slot a.members here.placed addable (inr (role, may))) look.counts
-    c.spare_for-sb.ensures.made e.own e.moved e.failed e.lost e.grows e.others e.clean e.rise e.counts in
+    c.spare_for-sb.ensures.made e.own e.keeps.moved e.keeps.failed e.lost e.keeps.bank.grows e.others e.clean e.keeps.rise e.keeps.bank.counts in
     let m = c.add_member-lost.new.members in
     let roles = c.newly_unassigned-roles.result in
     let spares = c.without-spares.result in
@@ -480,7 +481,7 @@ returns-clause-others g c =
     let e = c.add_member-lost.ensures in
     let look = c.look_at.ensures in
     let did = add-done look.given was.kept.slots here.placed here.unlost here.free there (λ role may. slot-free given (Some a.backup) slot a.members here.placed addable (inr (role, may))) look.counts
-    c.spare_for-sb.ensures.made e.own e.moved e.failed e.lost e.grows e.others e.clean e.rise e.counts in
+    c.spare_for-sb.ensures.made e.own e.keeps.moved e.keeps.failed e.lost e.keeps.bank.grows e.others e.clean e.keeps.rise e.keeps.bank.counts in
     rw (← c.moving.view_is) (λ t s k other. did.others t s k other ∙ (λ i. contents-added given.start (g.B.Bank.tape a.bank) (g.B.Bank.tape c.look_at.new.bank) (look.tape t) i s k))
 
 pub returns-clause-failed : goal.returns-clause-failed
@@ -495,7 +496,7 @@ returns-clause-failed g c =
     let e = c.add_member-lost.ensures in
     let look = c.look_at.ensures in
     let did = add-done look.given was.kept.slots here.placed here.unlost here.free there (λ role may. slot-free given (Some a.backup) slot a.members here.placed addable (inr (role, may))) look.counts
-    c.spare_for-sb.ensures.made e.own e.moved e.failed e.lost e.grows e.others e.clean e.rise e.counts in
+    c.spare_for-sb.ensures.made e.own e.keeps.moved e.keeps.failed e.lost e.keeps.bank.grows e.others e.clean e.keeps.rise e.keeps.bank.counts in
     rw (← c.moving.view_is) did.failed.roles
 
 -- ---- what the searches would find too, for longer
@@ -527,15 +528,9 @@ returns-in_default-clause-course g c = ap (λ p. p.course) c.moving.view_is
 pub unassigned_roles-before-requires-clause-known : goal.unassigned_roles-before-requires-clause-known
 unassigned_roles-before-requires-clause-known g c = le_of_eq c.len-count.ensures
 
-pub add_member-lost-requires-clause-slots : goal.add_member-lost-requires-clause-slots
-add_member-lost-requires-clause-slots g c = subst (λ (b : Given). b.slots ≤ 32) (sym c.look_at.ensures.given) c.moving.invariant.kept.slots
-
-pub add_member-lost-requires-clause-unlost : goal.add_member-lost-requires-clause-unlost
-add_member-lost-requires-clause-unlost g c = c.moving.invariant.kept.members_are.unlost
-
 pub newly_unassigned-roles-requires-clause-known : goal.newly_unassigned-roles-requires-clause-known
 newly_unassigned-roles-requires-clause-known g c =
-    roles-moved (g.B.Bank.given c.look_at.new.bank) (with_spare c.args.slot c.spare_for-sb.result c.moving.inside.members) c.add_member-lost.new.members c.add_member-lost.ensures.moved c.len-count.result c.len-count.ensures c.moving.invariant.kept.members_are.placed.roles
+    roles-moved (g.B.Bank.given c.look_at.new.bank) (with_spare c.args.slot c.spare_for-sb.result c.moving.inside.members) c.add_member-lost.new.members c.add_member-lost.ensures.keeps.moved c.len-count.result c.len-count.ensures c.moving.invariant.kept.members_are.placed.roles
 
 pub append_after_losses-requires-clause-room : goal.append_after_losses-requires-clause-room
 append_after_losses-requires-clause-room g c = room-made _ c.in-Ok.ensures.ok
@@ -550,7 +545,7 @@ pub returns-then-contains-clause-course : goal.returns-then-contains-clause-cour
 returns-then-contains-clause-course g c = ap (λ p. p.course) c.moving.view_is
 
 pub returns-then-contains-clause-given : goal.returns-then-contains-clause-given
-returns-then-contains-clause-given g c = c.add_member-lost.ensures.given ∙ c.look_at.ensures.given ∙ ap (λ p. g.B.Bank.given p.parts.bank) c.moving.view_is
+returns-then-contains-clause-given g c = c.add_member-lost.ensures.keeps.bank.same ∙ c.look_at.ensures.given ∙ ap (λ p. g.B.Bank.given p.parts.bank) c.moving.view_is
 
 pub append_after_losses-requires-2-clause-room : goal.append_after_losses-requires-2-clause-room
 append_after_losses-requires-2-clause-room g c = room-made _ c.in-Ok.ensures.ok
@@ -565,4 +560,4 @@ pub returns-clause-course : goal.returns-clause-course
 returns-clause-course g c = ap (λ p. p.course) c.moving.view_is
 
 pub returns-clause-given : goal.returns-clause-given
-returns-clause-given g c = c.add_member-lost.ensures.given ∙ c.look_at.ensures.given ∙ ap (λ p. g.B.Bank.given p.parts.bank) c.moving.view_is
+returns-clause-given g c = c.add_member-lost.ensures.keeps.bank.same ∙ c.look_at.ensures.given ∙ ap (λ p. g.B.Bank.given p.parts.bank) c.moving.view_is

@@ -111,16 +111,16 @@ invariant_of-moving g c =
     let size = list_length a.members.newest in
     let count = length c.args.into.now / 512 in
     let asked = length c.as_mut_slice.result.now / 512 in
-    let since : AreLostSince a.members m roles spares before after = lost-since given a.members m c.len-count.result c.unassigned_roles-before.result roles spares before after was.kept.members_are.placed did.moved did.failed
+    let since : AreLostSince a.members m roles spares before after = lost-since given a.members m c.len-count.result c.unassigned_roles-before.result roles spares before after was.kept.members_are.placed did.keeps.moved did.keeps.failed
     (c.len-count.ensures ∙ was.kept.members_are.backed.roles) c.unassigned_roles-before.ensures c.newly_unassigned-roles.ensures in
     let named : IsFetched g.B.Bank.tells given tape tape' a.members m roles =
     record {
-      moved = did.moved;
-      few = few-roles m.newest did.moved.placed.fit.valid;
-      since = missing-since roles did.moved since.vacant;
+      moved = did.keeps.moved;
+      few = few-roles m.newest did.keeps.moved.placed.fit.valid;
+      since = missing-since roles did.keeps.moved since.vacant;
       clean = did.clean;
-      rise = risen-told did.rise;
-      unused = did.unused;
+      rise = risen-told did.keeps.rise;
+      unused = did.keeps.unused;
       others = did.others;
       safe = did.safe;
     } in
@@ -134,11 +134,11 @@ invariant_of-moving g c =
     (beside-unread hidden relied c.args.at (c.args.at + asked) m refusal
     (some-of (IsUnreadBeside hidden relied c.args.at (c.args.at + asked) m) c.read_around_window-fetched.result.refusal refusal c.in-Some.is did.refused)) in
     with-buffer (let len = (with_items a.buffer c.read_around_window-fetched.new.scratch).ok.0 in let ok = a.buffer.ok.0 in let fits = was.buffer_fits in omega (arith, len, ok, fits))
-    (ready (entries_of c.args.who end (losses_of roles spares ++ Refused refusal ∷ [])) was did.grows (shapes-moved given a.members m did.moved)
+    (ready (entries_of c.args.who end (losses_of roles spares ++ Refused refusal ∷ [])) was did.keeps.bank.grows (shapes-moved given a.members m did.keeps.moved)
     (subst (λ (left : ℕ). IsMoving g.B.Bank.tells given tape' scope a.epoch.first (a.epoch.entries.items ++ entries_of c.args.who end (losses_of roles spares ++ Refused refusal ∷ [])) m (bears a.work) a.work.resync a.course (bytes_in a.course.window a.window.items) left)
-    (sym (left-moved given a.members m a.work.resync a.course a.ahead did.moved)) (unread-moves was.kept was.limited (read-live c.backed_up_span-hidden.result c.relied_sector-relied.result c.args.at (c.args.at + count) was.kept fine.1 (read-some count c.args.at (λ zero. let some = c.requires.some in omega (arith, some, zero)))) c.args.who end roles spares (begins-going a.epoch.entries.items c.args.who number) (not_254 c.args.who.caller c.requires.caller) c.ops-end.ensures.count did.grows named hidden relied c.args.at (c.args.at + count) refusal c.relied_sector-relied.ensures.value within why))
-    refl did.counts (behind-keeps c.args.who end roles spares (Refused refusal) (λ n. refl) (λ limit. refl))
-    (behind-whole tape' scope a.epoch.first a.epoch.entries.items c.args.who end roles spares (Refused refusal) did.moved (missing-since roles did.moved since.vacant)) did.given (scope-same given (Some a.backup) did.given c.append_after_losses.ensures.uuid c.append_after_losses.ensures.given) c.append_after_losses.ensures.first refl
+    (sym (left-moved given a.members m a.work.resync a.course a.ahead did.keeps.moved)) (unread-moves was.kept was.limited (read-live c.backed_up_span-hidden.result c.relied_sector-relied.result c.args.at (c.args.at + count) was.kept fine.1 (read-some count c.args.at (λ zero. let some = c.requires.some in omega (arith, some, zero)))) c.args.who end roles spares (begins-going a.epoch.entries.items c.args.who number) (not_254 c.args.who.caller c.requires.caller) c.ops-end.ensures.count did.keeps.bank.grows named hidden relied c.args.at (c.args.at + count) refusal c.relied_sector-relied.ensures.value within why))
+    refl did.keeps.bank.counts (behind-keeps c.args.who end roles spares (Refused refusal) (λ n. refl) (λ limit. refl))
+    (behind-whole tape' scope a.epoch.first a.epoch.entries.items c.args.who end roles spares (Refused refusal) did.keeps.moved (missing-since roles did.keeps.moved since.vacant)) did.keeps.bank.same (scope-same given (Some a.backup) did.keeps.bank.same c.append_after_losses.ensures.uuid c.append_after_losses.ensures.given) c.append_after_losses.ensures.first refl
     c.append_after_losses.ensures.items
     (room-after-49 a.steps a.epoch.entries.room c.append_after_losses.new.epoch.entries.room was.room_left c.append_after_losses.ensures.room steps))
 
@@ -165,7 +165,7 @@ returns-in-Some-clause-answered g c =
     let size = list_length a.members.newest in
     let count = length c.args.into.now / 512 in
     let asked = length c.as_mut_slice.result.now / 512 in
-    let since : AreLostSince a.members m roles spares before after = lost-since given a.members m c.len-count.result c.unassigned_roles-before.result roles spares before after was.kept.members_are.placed did.moved did.failed
+    let since : AreLostSince a.members m roles spares before after = lost-since given a.members m c.len-count.result c.unassigned_roles-before.result roles spares before after was.kept.members_are.placed did.keeps.moved did.keeps.failed
     (c.len-count.ensures ∙ was.kept.members_are.backed.roles) c.unassigned_roles-before.ensures c.newly_unassigned-roles.ensures in
     let refusal = c.in-Some.refusal in
     let same : asked ≡ count = asked-is c.args.bytes.items c.as_mut_slice.result.now c.args.into.now c.requires.same c.as_mut_slice.ensures.value in
@@ -204,7 +204,7 @@ returns-in-Some-clause-caused g c =
     let size = list_length a.members.newest in
     let count = length c.args.into.now / 512 in
     let asked = length c.as_mut_slice.result.now / 512 in
-    let since : AreLostSince a.members m roles spares before after = lost-since given a.members m c.len-count.result c.unassigned_roles-before.result roles spares before after was.kept.members_are.placed did.moved did.failed
+    let since : AreLostSince a.members m roles spares before after = lost-since given a.members m c.len-count.result c.unassigned_roles-before.result roles spares before after was.kept.members_are.placed did.keeps.moved did.keeps.failed
     (c.len-count.ensures ∙ was.kept.members_are.backed.roles) c.unassigned_roles-before.ensures c.newly_unassigned-roles.ensures in
     let refusal = c.in-Some.refusal in
     let same : asked ≡ count = asked-is c.args.bytes.items c.as_mut_slice.result.now c.args.into.now c.requires.same c.as_mut_slice.ensures.value in
@@ -239,12 +239,12 @@ returns-in-Some-clause-called g c =
     let size = list_length a.members.newest in
     let count = length c.args.into.now / 512 in
     let asked = length c.as_mut_slice.result.now / 512 in
-    let since : AreLostSince a.members m roles spares before after = lost-since given a.members m c.len-count.result c.unassigned_roles-before.result roles spares before after was.kept.members_are.placed did.moved did.failed
+    let since : AreLostSince a.members m roles spares before after = lost-since given a.members m c.len-count.result c.unassigned_roles-before.result roles spares before after was.kept.members_are.placed did.keeps.moved did.keeps.failed
     (c.len-count.ensures ∙ was.kept.members_are.backed.roles) c.unassigned_roles-before.ensures c.newly_unassigned-roles.ensures in
-    called-over g.B.Bank.given g.B.Bank.tape g.B.Bank.faults_of c.moving.view_is (called did.grows did.moved
+    called-over g.B.Bank.given g.B.Bank.tape g.B.Bank.faults_of c.moving.view_is (called did.keeps.bank.grows did.keeps.moved
     (ended-behind tape' c.append_after_losses.new.epoch.first a.epoch.entries.items c.args.who end (losses_of roles spares) (Refused c.in-Some.refusal) c.append_after_losses.ensures.items c.ops-end.ensures.count)
     (losses-behind a.members m before after a.epoch.entries.items a.epoch.entries.items c.append_after_losses.new.epoch.entries.items c.args.who end roles spares (Refused c.in-Some.refusal) since tt refl c.append_after_losses.ensures.items)
-    did.counts (record { uuid = c.append_after_losses.ensures.uuid; given = c.append_after_losses.ensures.given; first = c.append_after_losses.ensures.first; backup = refl; work = refl; ahead = refl; limit = refl }) (λ t. (was.kept.recorded t).begun))
+    did.keeps.bank.counts (record { uuid = c.append_after_losses.ensures.uuid; given = c.append_after_losses.ensures.given; first = c.append_after_losses.ensures.first; backup = refl; work = refl; ahead = refl; limit = refl }) (λ t. (was.kept.recorded t).begun))
 
 pub returns-in-Some-clause-others : goal.returns-in-Some-clause-others
 returns-in-Some-clause-others g c = subst (λ p. g.B.Bank.tells → AreOthersPresent (present (g.B.Bank.given p.parts.bank) (g.B.Bank.tape p.parts.bank)) (present (g.B.Bank.given p.parts.bank) (g.B.Bank.tape c.read_around_window-fetched.new.bank))) c.moving.view_is c.read_around_window-fetched.ensures.others
@@ -253,10 +253,10 @@ pub returns-clause-others : goal.returns-clause-others
 returns-clause-others g c = subst (λ p. g.B.Bank.tells → AreOthersPresent (present (g.B.Bank.given p.parts.bank) (g.B.Bank.tape p.parts.bank)) (present (g.B.Bank.given p.parts.bank) (g.B.Bank.tape c.read_around_window-fetched.new.bank))) c.moving.view_is c.read_around_window-fetched.ensures.others
 
 pub returns-in-Some-clause-failed : goal.returns-in-Some-clause-failed
-returns-in-Some-clause-failed g c = subst (λ p. HaveRolesFailed p.parts.members c.read_around_window-fetched.new.members (g.B.Bank.faults_of p.parts.bank) (g.B.Bank.faults_of c.read_around_window-fetched.new.bank)) c.moving.view_is c.read_around_window-fetched.ensures.failed.roles
+returns-in-Some-clause-failed g c = subst (λ p. HaveRolesFailed p.parts.members c.read_around_window-fetched.new.members (g.B.Bank.faults_of p.parts.bank) (g.B.Bank.faults_of c.read_around_window-fetched.new.bank)) c.moving.view_is c.read_around_window-fetched.ensures.keeps.failed.roles
 
 pub returns-clause-failed : goal.returns-clause-failed
-returns-clause-failed g c = subst (λ p. HaveRolesFailed p.parts.members c.read_around_window-fetched.new.members (g.B.Bank.faults_of p.parts.bank) (g.B.Bank.faults_of c.read_around_window-fetched.new.bank)) c.moving.view_is c.read_around_window-fetched.ensures.failed.roles
+returns-clause-failed g c = subst (λ p. HaveRolesFailed p.parts.members c.read_around_window-fetched.new.members (g.B.Bank.faults_of p.parts.bank) (g.B.Bank.faults_of c.read_around_window-fetched.new.bank)) c.moving.view_is c.read_around_window-fetched.ensures.keeps.failed.roles
 
 pub invariant_of-moving-2 : goal.invariant_of-moving-2
 invariant_of-moving-2 g c =
@@ -282,16 +282,16 @@ invariant_of-moving-2 g c =
     let size = list_length a.members.newest in
     let count = length c.args.into.now / 512 in
     let asked = length c.as_mut_slice.result.now / 512 in
-    let since : AreLostSince a.members m roles spares before after = lost-since given a.members m c.len-count.result c.unassigned_roles-before.result roles spares before after was.kept.members_are.placed did.moved did.failed
+    let since : AreLostSince a.members m roles spares before after = lost-since given a.members m c.len-count.result c.unassigned_roles-before.result roles spares before after was.kept.members_are.placed did.keeps.moved did.keeps.failed
     (c.len-count.ensures ∙ was.kept.members_are.backed.roles) c.unassigned_roles-before.ensures c.newly_unassigned-roles.ensures in
     let named : IsFetched g.B.Bank.tells given tape tape' a.members m roles =
     record {
-      moved = did.moved;
-      few = few-roles m.newest did.moved.placed.fit.valid;
-      since = missing-since roles did.moved since.vacant;
+      moved = did.keeps.moved;
+      few = few-roles m.newest did.keeps.moved.placed.fit.valid;
+      since = missing-since roles did.keeps.moved since.vacant;
       clean = did.clean;
-      rise = risen-told did.rise;
-      unused = did.unused;
+      rise = risen-told did.keeps.rise;
+      unused = did.keeps.unused;
       others = did.others;
       safe = did.safe;
     } in
@@ -306,11 +306,11 @@ invariant_of-moving-2 g c =
     let holds = holds-sliced g.B.Bank.tells a.members m (present given tape) a.course.window a.window.items (take c.bytes_of-wide.result c.as_slice.result.now) c.bytes_of-wide.result c.backed_up_span-hidden.result c.relied_sector-relied.result c.args.at bytes asked same
     c.backed_up_span-hidden.ensures (ap (λ (l : List ℕ). take c.bytes_of-wide.result l) c.as_slice.ensures.value) c.bytes_of-wide.ensures.long (did.holds c.in_default.is) in
     with-buffer (let len = (with_items a.buffer c.read_around_window-fetched.new.scratch).ok.0 in let ok = a.buffer.ok.0 in let fits = was.buffer_fits in omega (arith, len, ok, fits))
-    (ready (entries_of c.args.who end (losses_of roles spares ++ Read c.args.at (sectors_of bytes) ∷ [])) was did.grows (shapes-moved given a.members m did.moved)
+    (ready (entries_of c.args.who end (losses_of roles spares ++ Read c.args.at (sectors_of bytes) ∷ [])) was did.keeps.bank.grows (shapes-moved given a.members m did.keeps.moved)
     (subst (λ (left : ℕ). IsMoving g.B.Bank.tells given tape' scope a.epoch.first (a.epoch.entries.items ++ entries_of c.args.who end (losses_of roles spares ++ Read c.args.at (sectors_of bytes) ∷ [])) m (bears a.work) a.work.resync a.course (bytes_in a.course.window a.window.items) left)
-    (sym (left-moved given a.members m a.work.resync a.course a.ahead did.moved)) (read-moves was.kept was.limited (read-live c.backed_up_span-hidden.result c.relied_sector-relied.result c.args.at (c.args.at + count) was.kept fine.1 (read-some count c.args.at (λ zero. let some = c.requires.some in omega (arith, some, zero)))) c.args.who end roles spares (begins-going a.epoch.entries.items c.args.who number) (not_254 c.args.who.caller c.requires.caller) c.ops-end.ensures.count did.grows named c.relied_sector-relied.result c.args.at bytes c.relied_sector-relied.ensures.value does within holds))
-    refl did.counts (behind-keeps c.args.who end roles spares (Read c.args.at (sectors_of bytes)) (λ n. refl) (λ limit. refl))
-    (behind-whole tape' scope a.epoch.first a.epoch.entries.items c.args.who end roles spares (Read c.args.at (sectors_of bytes)) did.moved (missing-since roles did.moved since.vacant)) did.given (scope-same given (Some a.backup) did.given c.append_after_losses-2.ensures.uuid c.append_after_losses-2.ensures.given) c.append_after_losses-2.ensures.first refl
+    (sym (left-moved given a.members m a.work.resync a.course a.ahead did.keeps.moved)) (read-moves was.kept was.limited (read-live c.backed_up_span-hidden.result c.relied_sector-relied.result c.args.at (c.args.at + count) was.kept fine.1 (read-some count c.args.at (λ zero. let some = c.requires.some in omega (arith, some, zero)))) c.args.who end roles spares (begins-going a.epoch.entries.items c.args.who number) (not_254 c.args.who.caller c.requires.caller) c.ops-end.ensures.count did.keeps.bank.grows named c.relied_sector-relied.result c.args.at bytes c.relied_sector-relied.ensures.value does within holds))
+    refl did.keeps.bank.counts (behind-keeps c.args.who end roles spares (Read c.args.at (sectors_of bytes)) (λ n. refl) (λ limit. refl))
+    (behind-whole tape' scope a.epoch.first a.epoch.entries.items c.args.who end roles spares (Read c.args.at (sectors_of bytes)) did.keeps.moved (missing-since roles did.keeps.moved since.vacant)) did.keeps.bank.same (scope-same given (Some a.backup) did.keeps.bank.same c.append_after_losses-2.ensures.uuid c.append_after_losses-2.ensures.given) c.append_after_losses-2.ensures.first refl
     (c.append_after_losses-2.ensures.items ∙ ap (λ (b : List Sector). a.epoch.entries.items ++ entries_of c.args.who end (losses_of roles spares ++ Read c.args.at b ∷ [])) (c.from_bytes-body.ensures ∙ ap sectors_of whole))
     (room-after-49 a.steps a.epoch.entries.room c.append_after_losses-2.new.epoch.entries.room was.room_left c.append_after_losses-2.ensures.room steps))
 
@@ -333,7 +333,7 @@ returns-clause-answered g c =
     let size = list_length a.members.newest in
     let count = length c.args.into.now / 512 in
     let asked = length c.as_mut_slice.result.now / 512 in
-    let since : AreLostSince a.members m roles spares before after = lost-since given a.members m c.len-count.result c.unassigned_roles-before.result roles spares before after was.kept.members_are.placed did.moved did.failed
+    let since : AreLostSince a.members m roles spares before after = lost-since given a.members m c.len-count.result c.unassigned_roles-before.result roles spares before after was.kept.members_are.placed did.keeps.moved did.keeps.failed
     (c.len-count.ensures ∙ was.kept.members_are.backed.roles) c.unassigned_roles-before.ensures c.newly_unassigned-roles.ensures in
     let into = c.copy_from_slice.new.self in
     let copied = c.copy_from_slice.ensures.after ∙ c.as_slice-2.ensures.value in
@@ -367,16 +367,16 @@ returns-clause-holds g c = λ t right i lt.
     let size = list_length a.members.newest in
     let count = length c.args.into.now / 512 in
     let asked = length c.as_mut_slice.result.now / 512 in
-    let since : AreLostSince a.members m roles spares before after = lost-since given a.members m c.len-count.result c.unassigned_roles-before.result roles spares before after was.kept.members_are.placed did.moved did.failed
+    let since : AreLostSince a.members m roles spares before after = lost-since given a.members m c.len-count.result c.unassigned_roles-before.result roles spares before after was.kept.members_are.placed did.keeps.moved did.keeps.failed
     (c.len-count.ensures ∙ was.kept.members_are.backed.roles) c.unassigned_roles-before.ensures c.newly_unassigned-roles.ensures in
     let named : IsFetched g.B.Bank.tells given tape tape' a.members m roles =
     record {
-      moved = did.moved;
-      few = few-roles m.newest did.moved.placed.fit.valid;
-      since = missing-since roles did.moved since.vacant;
+      moved = did.keeps.moved;
+      few = few-roles m.newest did.keeps.moved.placed.fit.valid;
+      since = missing-since roles did.keeps.moved since.vacant;
       clean = did.clean;
-      rise = risen-told did.rise;
-      unused = did.unused;
+      rise = risen-told did.keeps.rise;
+      unused = did.keeps.unused;
       others = did.others;
       safe = did.safe;
     } in
@@ -396,9 +396,9 @@ returns-clause-holds g c = λ t right i lt.
     c.append_after_losses-2.ensures.items
     ∙ ap (λ (b : List Sector). a.epoch.entries.items ++ entries_of c.args.who end (losses_of roles spares ++ Read c.args.at b ∷ [])) body in
     ap (λ (l : List ℕ). take 512 (drop (512 * i) l)) copied ∙ sym (row-sector bytes i)
-    ∙ holds-read was.kept was.limited (read-live c.backed_up_span-hidden.result c.relied_sector-relied.result c.args.at (c.args.at + count) was.kept fine.1 (read-some count c.args.at (λ zero. let some = c.requires.some in omega (arith, some, zero)))) c.args.who end roles spares (begins-going a.epoch.entries.items c.args.who number) (not_254 c.args.who.caller c.requires.caller) c.ops-end.ensures.count did.grows named c.relied_sector-relied.result c.args.at bytes c.relied_sector-relied.ensures.value does within holds t
+    ∙ holds-read was.kept was.limited (read-live c.backed_up_span-hidden.result c.relied_sector-relied.result c.args.at (c.args.at + count) was.kept fine.1 (read-some count c.args.at (λ zero. let some = c.requires.some in omega (arith, some, zero)))) c.args.who end roles spares (begins-going a.epoch.entries.items c.args.who number) (not_254 c.args.who.caller c.requires.caller) c.ops-end.ensures.count did.keeps.bank.grows named c.relied_sector-relied.result c.args.at bytes c.relied_sector-relied.ensures.value does within holds t
     (subst (λ (w : World). IsReliable w (a.epoch.entries.items ++ entries_of c.args.who end (losses_of roles spares ++ Read c.args.at (sectors_of bytes) ∷ [])))
-    (λ k. world_in (did.given k) tape' (scope-same given (Some a.backup) did.given c.append_after_losses-2.ensures.uuid c.append_after_losses-2.ensures.given k) (c.append_after_losses-2.ensures.first k))
+    (λ k. world_in (did.keeps.bank.same k) tape' (scope-same given (Some a.backup) did.keeps.bank.same c.append_after_losses-2.ensures.uuid c.append_after_losses-2.ensures.given k) (c.append_after_losses-2.ensures.first k))
     (subst (λ (l : List Entry). IsReliable (world_in (g.B.Bank.given c.read_around_window-fetched.new.bank) tape' (scope_in (g.B.Bank.given c.read_around_window-fetched.new.bank) c.append_after_losses-2.new.epoch.uuid c.append_after_losses-2.new.epoch.given (Some a.backup)) c.append_after_losses-2.new.epoch.first) l) items right)) i (subst (λ (l : List ℕ). i < length l / 512) copied lt)
     ∙ ap (λ p. now (opening_list (moving_world (g.B.Bank.given p.parts.bank) (g.B.Bank.tape p.parts.bank) p)) p.parts.entries (c.args.at + i)) c.moving.view_is
 
@@ -424,12 +424,12 @@ returns-clause-called g c =
     let size = list_length a.members.newest in
     let count = length c.args.into.now / 512 in
     let asked = length c.as_mut_slice.result.now / 512 in
-    let since : AreLostSince a.members m roles spares before after = lost-since given a.members m c.len-count.result c.unassigned_roles-before.result roles spares before after was.kept.members_are.placed did.moved did.failed
+    let since : AreLostSince a.members m roles spares before after = lost-since given a.members m c.len-count.result c.unassigned_roles-before.result roles spares before after was.kept.members_are.placed did.keeps.moved did.keeps.failed
     (c.len-count.ensures ∙ was.kept.members_are.backed.roles) c.unassigned_roles-before.ensures c.newly_unassigned-roles.ensures in
-    called-over g.B.Bank.given g.B.Bank.tape g.B.Bank.faults_of c.moving.view_is (called did.grows did.moved
+    called-over g.B.Bank.given g.B.Bank.tape g.B.Bank.faults_of c.moving.view_is (called did.keeps.bank.grows did.keeps.moved
     (ended-behind tape' c.append_after_losses-2.new.epoch.first a.epoch.entries.items c.args.who end (losses_of roles spares) (Read c.args.at c.from_bytes-body.result) c.append_after_losses-2.ensures.items c.ops-end.ensures.count)
     (losses-behind a.members m before after a.epoch.entries.items a.epoch.entries.items c.append_after_losses-2.new.epoch.entries.items c.args.who end roles spares (Read c.args.at c.from_bytes-body.result) since tt refl c.append_after_losses-2.ensures.items)
-    did.counts (record { uuid = c.append_after_losses-2.ensures.uuid; given = c.append_after_losses-2.ensures.given; first = c.append_after_losses-2.ensures.first; backup = refl; work = refl; ahead = refl; limit = refl }) (λ t. (was.kept.recorded t).begun))
+    did.keeps.bank.counts (record { uuid = c.append_after_losses-2.ensures.uuid; given = c.append_after_losses-2.ensures.given; first = c.append_after_losses-2.ensures.first; backup = refl; work = refl; ahead = refl; limit = refl }) (λ t. (was.kept.recorded t).begun))
 
 pub read_around_window-fetched-requires-clause-within : goal.read_around_window-fetched-requires-clause-within
 read_around_window-fetched-requires-clause-within g c =
@@ -444,17 +444,13 @@ read_around_window-fetched-requires-clause-into g c = subst (λ (l : List ℕ). 
 
 -- ---- by what stands above
 
-pub read_around_window-fetched-requires-clause-placed : goal.read_around_window-fetched-requires-clause-placed
-read_around_window-fetched-requires-clause-placed g c = c.moving.invariant.kept.members_are.placed
-
-pub read_around_window-fetched-requires-clause-unlost : goal.read_around_window-fetched-requires-clause-unlost
-read_around_window-fetched-requires-clause-unlost g c = c.moving.invariant.kept.members_are.unlost
-
-pub read_around_window-fetched-requires-clause-free : goal.read_around_window-fetched-requires-clause-free
-read_around_window-fetched-requires-clause-free g c = c.moving.invariant.kept.members_are.free
-
-pub read_around_window-fetched-requires-clause-slots : goal.read_around_window-fetched-requires-clause-slots
-read_around_window-fetched-requires-clause-slots g c = c.moving.invariant.kept.slots
+pub read_around_window-fetched-requires-clause-stands : goal.read_around_window-fetched-requires-clause-stands
+read_around_window-fetched-requires-clause-stands g c = record {
+  slots = c.moving.invariant.kept.slots;
+  placed = c.moving.invariant.kept.members_are.placed;
+  unlost = c.moving.invariant.kept.members_are.unlost;
+  free = c.moving.invariant.kept.members_are.free;
+}
 
 pub append_after_losses-requires-clause-room : goal.append_after_losses-requires-clause-room
 append_after_losses-requires-clause-room g c = room-49 c.moving.inside.steps c.moving.inside.epoch.entries.room (subst (λ p. 1 ≤ p.parts.steps) (sym c.moving.view_is) c.requires.room) c.moving.invariant.room_left
@@ -463,7 +459,7 @@ pub append_after_losses-requires-2-clause-room : goal.append_after_losses-requir
 append_after_losses-requires-2-clause-room g c = room-49 c.moving.inside.steps c.moving.inside.epoch.entries.room (subst (λ p. 1 ≤ p.parts.steps) (sym c.moving.view_is) c.requires.room) c.moving.invariant.room_left
 
 pub newly_unassigned-roles-requires-clause-known : goal.newly_unassigned-roles-requires-clause-known
-newly_unassigned-roles-requires-clause-known g c = known-moved c.len-count.result c.read_around_window-fetched.ensures.moved c.len-count.ensures c.moving.invariant.kept.members_are.placed.roles
+newly_unassigned-roles-requires-clause-known g c = known-moved c.len-count.result c.read_around_window-fetched.ensures.keeps.moved c.len-count.ensures c.moving.invariant.kept.members_are.placed.roles
 
 pub unassigned_roles-before-requires-clause-known : goal.unassigned_roles-before-requires-clause-known
 unassigned_roles-before-requires-clause-known g c = le-same _ _ c.len-count.ensures
@@ -478,13 +474,13 @@ pub returns-in-Some-clause-clean : goal.returns-in-Some-clause-clean
 returns-in-Some-clause-clean g c = c.read_around_window-fetched.ensures.clean ∙ ap (λ p. is_clean p.parts.members.newest) c.moving.view_is
 
 pub returns-in-Some-clause-given : goal.returns-in-Some-clause-given
-returns-in-Some-clause-given g c = c.read_around_window-fetched.ensures.given ∙ ap (λ p. g.B.Bank.given p.parts.bank) c.moving.view_is
+returns-in-Some-clause-given g c = c.read_around_window-fetched.ensures.keeps.bank.same ∙ ap (λ p. g.B.Bank.given p.parts.bank) c.moving.view_is
 
 pub returns-clause-clean : goal.returns-clause-clean
 returns-clause-clean g c = c.read_around_window-fetched.ensures.clean ∙ ap (λ p. is_clean p.parts.members.newest) c.moving.view_is
 
 pub returns-clause-given : goal.returns-clause-given
-returns-clause-given g c = c.read_around_window-fetched.ensures.given ∙ ap (λ p. g.B.Bank.given p.parts.bank) c.moving.view_is
+returns-clause-given g c = c.read_around_window-fetched.ensures.keeps.bank.same ∙ ap (λ p. g.B.Bank.given p.parts.bank) c.moving.view_is
 
 pub append_after_losses-requires-clause-number : goal.append_after_losses-requires-clause-number
 append_after_losses-requires-clause-number g c = c.check_number.ensures

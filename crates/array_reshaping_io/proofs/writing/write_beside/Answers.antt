@@ -148,7 +148,7 @@ invariant_of-moving-in-Some-refusal g c =
     let end = c.ops-end-2.result in
     let refusal = c.in-Some-refusal.refusal in
     let is = c.in-Some-refusal.is in
-    let since : AreLostSince a.members m roles spares before after = lost-since given a.members m c.len-count.result c.unassigned_roles-before.result roles spares before after here.placed did.moved did.failed
+    let since : AreLostSince a.members m roles spares before after = lost-since given a.members m c.len-count.result c.unassigned_roles-before.result roles spares before after here.placed did.keeps.moved did.keeps.failed
     (c.len-count.ensures ∙ here.backed.roles) c.unassigned_roles-before.ensures c.newly_unassigned-roles.ensures in
     let fine : (refusal : Refusal) → IsListUnwritten c.args.past relied at to a.members refusal → ⊥ =
     c.in_default.ensures.why.1 in
@@ -158,24 +158,24 @@ invariant_of-moving-in-Some-refusal g c =
     record {
       within = let within = c.in_default.ensures.why.0 in let below = visible-within (list_length a.members.newest) a.limit in omega (arith, within, below);
       beside = subst (λ p. (x : ℕ) → at ≤ x → x < to → covers (span_in p.course.window) x ≡ false) (sym c.moving.view_is) c.requires.beside;
-      moved = did.moved;
-      few = few-roles m.newest did.moved.placed.fit.valid;
-      since = missing-since roles did.moved since.vacant;
-      rise = risen-told did.rise;
-      unused = did.unused;
+      moved = did.keeps.moved;
+      few = few-roles m.newest did.keeps.moved.placed.fit.valid;
+      since = missing-since roles did.keeps.moved since.vacant;
+      rise = risen-told did.keeps.rise;
+      unused = did.keeps.unused;
       stays = did.stays;
       safe = did.safe;
     } in
-    let kept = unwritten-kept a.course a.ahead (bytes_in a.course.window a.window.items) c.args.who end roles spares at from c.args.past relied begun was.kept goes c.requires.caller c.ops-end-2.ensures.count did.grows was.limited c.in_default.ensures.why.0 c.requires.some fine c.relied_sector-relied.ensures.value stood put refusal
+    let kept = unwritten-kept a.course a.ahead (bytes_in a.course.window a.window.items) c.args.who end roles spares at from c.args.past relied begun was.kept goes c.requires.caller c.ops-end-2.ensures.count did.keeps.bank.grows was.limited c.in_default.ensures.why.0 c.requires.some fine c.relied_sector-relied.ensures.value stood put refusal
     (record {
       refused = some-of (IsListUnwritten c.args.past relied at to m) c.write_list-done.result.refusal refusal is did.refused;
       torn = λ begun. some-of (IsListTorn at to m) c.write_list-done.result.refusal refusal is (did.torn begun);
       torn_rows = some-of (λ refusal. g.B.Bank.tells → AreOtherRowsKept (IsTornTouched a.members.newest at to m) (reading_of m) (present given tape) (present given tape')) c.write_list-done.result.refusal refusal is did.torn_rows;
     }) in
     with-rooms did.rows did.buffer did.far_rows did.far_buffer
-    (ready (entries_of c.args.who end (failure_events roles spares begun at (sectors_of from) refusal)) was did.grows (shapes-moved given a.members m did.moved) kept
-    refl did.counts (failure-keeps c.args.who end roles spares begun at (sectors_of from) refusal)
-    (failure-whole tape' scope a.epoch.first a.epoch.entries.items c.args.who end roles spares begun at (sectors_of from) refusal did.moved (missing-since roles did.moved since.vacant)) did.given (scope-same given (Some a.backup) did.given c.append_failure.ensures.uuid c.append_failure.ensures.given) c.append_failure.ensures.first refl
+    (ready (entries_of c.args.who end (failure_events roles spares begun at (sectors_of from) refusal)) was did.keeps.bank.grows (shapes-moved given a.members m did.keeps.moved) kept
+    refl did.keeps.bank.counts (failure-keeps c.args.who end roles spares begun at (sectors_of from) refusal)
+    (failure-whole tape' scope a.epoch.first a.epoch.entries.items c.args.who end roles spares begun at (sectors_of from) refusal did.keeps.moved (missing-since roles did.keeps.moved since.vacant)) did.keeps.bank.same (scope-same given (Some a.backup) did.keeps.bank.same c.append_failure.ensures.uuid c.append_failure.ensures.given) c.append_failure.ensures.first refl
     (c.append_failure.ensures.items ∙ ap (λ (b : List Sector). a.epoch.entries.items ++ entries_of c.args.who end (failure_events roles spares begun at b refusal)) c.requires.body)
     (room-after-50 a.steps a.epoch.entries.room c.append_failure.new.epoch.entries.room was.room_left c.append_failure.ensures.room steps))
 
@@ -209,12 +209,12 @@ returns-in-Some-refusal-clause-called g c =
     let begun = c.write_list-done.result.begun in
     let end = c.ops-end-2.result in
     let refusal = c.in-Some-refusal.refusal in
-    let since : AreLostSince a.members m roles spares before after = lost-since given a.members m c.len-count.result c.unassigned_roles-before.result roles spares before after here.placed did.moved did.failed
+    let since : AreLostSince a.members m roles spares before after = lost-since given a.members m c.len-count.result c.unassigned_roles-before.result roles spares before after here.placed did.keeps.moved did.keeps.failed
     (c.len-count.ensures ∙ here.backed.roles) c.unassigned_roles-before.ensures c.newly_unassigned-roles.ensures in
-    called-over g.B.Bank.given g.B.Bank.tape g.B.Bank.faults_of c.moving.view_is (called did.grows did.moved
+    called-over g.B.Bank.given g.B.Bank.tape g.B.Bank.faults_of c.moving.view_is (called did.keeps.bank.grows did.keeps.moved
     (ended-failure (g.B.Bank.tape c.write_list-done.new.bank) c.append_failure.new.epoch.first a.epoch.entries.items c.args.who end roles spares begun c.args.at c.args.body refusal c.append_failure.ensures.items c.ops-end-2.ensures.count)
     (losses-failure a.members m before after a.epoch.entries.items a.epoch.entries.items c.append_failure.new.epoch.entries.items c.args.who end roles spares begun c.args.at c.args.body refusal since refl c.append_failure.ensures.items)
-    did.counts
+    did.keeps.bank.counts
     (record { uuid = c.append_failure.ensures.uuid; given = c.append_failure.ensures.given; first = c.append_failure.ensures.first; backup = refl; work = refl; ahead = refl; limit = refl })
     (λ t. (was.kept.recorded t).begun))
 
@@ -233,7 +233,7 @@ returns-in-Some-refusal-clause-caused g c =
 pub returns-in-Some-refusal-clause-left : goal.returns-in-Some-refusal-clause-left
 returns-in-Some-refusal-clause-left g c =
     let a = c.moving.inside in
-    left-moved (g.B.Bank.given a.bank) a.members c.write_list-done.new.members a.work.resync a.course a.ahead c.write_list-done.ensures.moved ∙ ap (λ p. left_in p.parts.work p.parts.members p.course p.ahead) c.moving.view_is
+    left-moved (g.B.Bank.given a.bank) a.members c.write_list-done.new.members a.work.resync a.course a.ahead c.write_list-done.ensures.keeps.moved ∙ ap (λ p. left_in p.parts.work p.parts.members p.course p.ahead) c.moving.view_is
 
 -- ---- it is done
 
@@ -261,7 +261,7 @@ invariant_of-moving-2 g c =
     let spares = c.write_list-done.result.spares in
     let end = c.ops-end-2.result in
     let none = c.in_default-refusal.is in
-    let since : AreLostSince a.members m roles spares before after = lost-since given a.members m c.len-count.result c.unassigned_roles-before.result roles spares before after here.placed did.moved did.failed
+    let since : AreLostSince a.members m roles spares before after = lost-since given a.members m c.len-count.result c.unassigned_roles-before.result roles spares before after here.placed did.keeps.moved did.keeps.failed
     (c.len-count.ensures ∙ here.backed.roles) c.unassigned_roles-before.ensures c.newly_unassigned-roles.ensures in
     let fine : (refusal : Refusal) → IsListUnwritten c.args.past relied at to a.members refusal → ⊥ =
     c.in_default.ensures.why.1 in
@@ -271,20 +271,20 @@ invariant_of-moving-2 g c =
     record {
       within = let within = c.in_default.ensures.why.0 in let below = visible-within (list_length a.members.newest) a.limit in omega (arith, within, below);
       beside = subst (λ p. (x : ℕ) → at ≤ x → x < to → covers (span_in p.course.window) x ≡ false) (sym c.moving.view_is) c.requires.beside;
-      moved = did.moved;
-      few = few-roles m.newest did.moved.placed.fit.valid;
-      since = missing-since roles did.moved since.vacant;
-      rise = risen-told did.rise;
-      unused = did.unused;
+      moved = did.keeps.moved;
+      few = few-roles m.newest did.keeps.moved.placed.fit.valid;
+      since = missing-since roles did.keeps.moved since.vacant;
+      rise = risen-told did.keeps.rise;
+      unused = did.keeps.unused;
       stays = did.stays;
       safe = did.safe;
     } in
-    let kept = wrote-kept a.course a.ahead (bytes_in a.course.window a.window.items) c.args.who end roles spares at from c.args.past relied begun was.kept goes c.requires.caller c.ops-end-2.ensures.count did.grows was.limited c.in_default.ensures.why.0 c.requires.some fine c.relied_sector-relied.ensures.value stood put
+    let kept = wrote-kept a.course a.ahead (bytes_in a.course.window a.window.items) c.args.who end roles spares at from c.args.past relied begun was.kept goes c.requires.caller c.ops-end-2.ensures.count did.keeps.bank.grows was.limited c.in_default.ensures.why.0 c.requires.some fine c.relied_sector-relied.ensures.value stood put
     (record { bytes = λ i. (c.type_inv.from i).fits; whole = c.requires.whole; put = did.write_listed none; tail = did.tail none; ends = did.ends none; others = did.others; good = did.good none }) in
     with-rooms did.rows did.buffer did.far_rows did.far_buffer
-    (ready (entries_of c.args.who end (losses_of roles spares ++ Wrote at (sectors_of from) ∷ [])) was did.grows (shapes-moved given a.members m did.moved) kept
-    refl did.counts (behind-keeps c.args.who end roles spares (Wrote at (sectors_of from)) (λ n. refl) (λ limit. refl))
-    (behind-whole tape' scope a.epoch.first a.epoch.entries.items c.args.who end roles spares (Wrote at (sectors_of from)) did.moved (missing-since roles did.moved since.vacant)) did.given (scope-same given (Some a.backup) did.given c.append_after_losses.ensures.uuid c.append_after_losses.ensures.given) c.append_after_losses.ensures.first refl
+    (ready (entries_of c.args.who end (losses_of roles spares ++ Wrote at (sectors_of from) ∷ [])) was did.keeps.bank.grows (shapes-moved given a.members m did.keeps.moved) kept
+    refl did.keeps.bank.counts (behind-keeps c.args.who end roles spares (Wrote at (sectors_of from)) (λ n. refl) (λ limit. refl))
+    (behind-whole tape' scope a.epoch.first a.epoch.entries.items c.args.who end roles spares (Wrote at (sectors_of from)) did.keeps.moved (missing-since roles did.keeps.moved since.vacant)) did.keeps.bank.same (scope-same given (Some a.backup) did.keeps.bank.same c.append_after_losses.ensures.uuid c.append_after_losses.ensures.given) c.append_after_losses.ensures.first refl
     (c.append_after_losses.ensures.items ∙ ap (λ (b : List Sector). a.epoch.entries.items ++ entries_of c.args.who end (losses_of roles spares ++ Wrote at b ∷ [])) c.requires.body)
     (room-after-49 a.steps a.epoch.entries.room c.append_after_losses.new.epoch.entries.room was.room_left c.append_after_losses.ensures.room steps))
 
@@ -315,12 +315,12 @@ returns-clause-called g c =
     let spares = c.write_list-done.result.spares in
     let end = c.ops-end-2.result in
     let event = Wrote c.args.at c.args.body in
-    let since : AreLostSince a.members m roles spares before after = lost-since given a.members m c.len-count.result c.unassigned_roles-before.result roles spares before after here.placed did.moved did.failed
+    let since : AreLostSince a.members m roles spares before after = lost-since given a.members m c.len-count.result c.unassigned_roles-before.result roles spares before after here.placed did.keeps.moved did.keeps.failed
     (c.len-count.ensures ∙ here.backed.roles) c.unassigned_roles-before.ensures c.newly_unassigned-roles.ensures in
-    called-over g.B.Bank.given g.B.Bank.tape g.B.Bank.faults_of c.moving.view_is (called did.grows did.moved
+    called-over g.B.Bank.given g.B.Bank.tape g.B.Bank.faults_of c.moving.view_is (called did.keeps.bank.grows did.keeps.moved
     (ended-behind (g.B.Bank.tape c.write_list-done.new.bank) c.append_after_losses.new.epoch.first a.epoch.entries.items c.args.who end (losses_of roles spares) event c.append_after_losses.ensures.items c.ops-end-2.ensures.count)
     (losses-behind a.members m before after a.epoch.entries.items a.epoch.entries.items c.append_after_losses.new.epoch.entries.items c.args.who end roles spares event since tt refl c.append_after_losses.ensures.items)
-    did.counts
+    did.keeps.bank.counts
     (record { uuid = c.append_after_losses.ensures.uuid; given = c.append_after_losses.ensures.given; first = c.append_after_losses.ensures.first; backup = refl; work = refl; ahead = refl; limit = refl })
     (λ t. (was.kept.recorded t).begun))
 
@@ -339,7 +339,7 @@ returns-clause-dirty g c = c.write_list-done.ensures.dirty c.in_default-refusal.
 pub returns-clause-left : goal.returns-clause-left
 returns-clause-left g c =
     let a = c.moving.inside in
-    left-moved (g.B.Bank.given a.bank) a.members c.write_list-done.new.members a.work.resync a.course a.ahead c.write_list-done.ensures.moved ∙ ap (λ p. left_in p.parts.work p.parts.members p.course p.ahead) c.moving.view_is
+    left-moved (g.B.Bank.given a.bank) a.members c.write_list-done.new.members a.work.resync a.course a.ahead c.write_list-done.ensures.keeps.moved ∙ ap (λ p. left_in p.parts.work p.parts.members p.course p.ahead) c.moving.view_is
 
 -- ---- what failed
 
@@ -347,10 +347,10 @@ pub returns-in-Some-clause-failed : goal.returns-in-Some-clause-failed
 returns-in-Some-clause-failed g c = rw (← c.moving.view_is) (λ role slot held. inl held)
 
 pub returns-in-Some-refusal-clause-failed : goal.returns-in-Some-refusal-clause-failed
-returns-in-Some-refusal-clause-failed g c = subst (λ p. HaveRolesFailed p.parts.members c.write_list-done.new.members (g.B.Bank.faults_of p.parts.bank) (g.B.Bank.faults_of c.write_list-done.new.bank)) c.moving.view_is c.write_list-done.ensures.failed.roles
+returns-in-Some-refusal-clause-failed g c = subst (λ p. HaveRolesFailed p.parts.members c.write_list-done.new.members (g.B.Bank.faults_of p.parts.bank) (g.B.Bank.faults_of c.write_list-done.new.bank)) c.moving.view_is c.write_list-done.ensures.keeps.failed.roles
 
 pub returns-clause-failed : goal.returns-clause-failed
-returns-clause-failed g c = subst (λ p. HaveRolesFailed p.parts.members c.write_list-done.new.members (g.B.Bank.faults_of p.parts.bank) (g.B.Bank.faults_of c.write_list-done.new.bank)) c.moving.view_is c.write_list-done.ensures.failed.roles
+returns-clause-failed g c = subst (λ p. HaveRolesFailed p.parts.members c.write_list-done.new.members (g.B.Bank.faults_of p.parts.bank) (g.B.Bank.faults_of c.write_list-done.new.bank)) c.moving.view_is c.write_list-done.ensures.keeps.failed.roles
 
 -- ---- which refusal is the first
 
@@ -365,17 +365,13 @@ returns-clause-first g c = rw (← c.moving.view_is) (first-none _ _ c.in_defaul
 
 -- ---- by what stands above
 
-pub write_list-done-requires-clause-placed : goal.write_list-done-requires-clause-placed
-write_list-done-requires-clause-placed g c = c.moving.invariant.kept.members_are.placed
-
-pub write_list-done-requires-clause-unlost : goal.write_list-done-requires-clause-unlost
-write_list-done-requires-clause-unlost g c = c.moving.invariant.kept.members_are.unlost
-
-pub write_list-done-requires-clause-free : goal.write_list-done-requires-clause-free
-write_list-done-requires-clause-free g c = c.moving.invariant.kept.members_are.free
-
-pub write_list-done-requires-clause-slots : goal.write_list-done-requires-clause-slots
-write_list-done-requires-clause-slots g c = c.moving.invariant.kept.slots
+pub write_list-done-requires-clause-stands : goal.write_list-done-requires-clause-stands
+write_list-done-requires-clause-stands g c = record {
+  slots = c.moving.invariant.kept.slots;
+  placed = c.moving.invariant.kept.members_are.placed;
+  unlost = c.moving.invariant.kept.members_are.unlost;
+  free = c.moving.invariant.kept.members_are.free;
+}
 
 pub write_list-done-requires-clause-rows : goal.write_list-done-requires-clause-rows
 write_list-done-requires-clause-rows g c = c.moving.invariant.rows_fit
@@ -405,7 +401,7 @@ pub append_failure-requires-clause-room : goal.append_failure-requires-clause-ro
 append_failure-requires-clause-room g c = room-50 c.moving.inside.steps c.moving.inside.epoch.entries.room (subst (λ p. 1 ≤ p.parts.steps) (sym c.moving.view_is) c.requires.room) c.moving.invariant.room_left
 
 pub newly_unassigned-roles-requires-clause-known : goal.newly_unassigned-roles-requires-clause-known
-newly_unassigned-roles-requires-clause-known g c = known-moved c.len-count.result c.write_list-done.ensures.moved c.len-count.ensures c.moving.invariant.kept.members_are.placed.roles
+newly_unassigned-roles-requires-clause-known g c = known-moved c.len-count.result c.write_list-done.ensures.keeps.moved c.len-count.ensures c.moving.invariant.kept.members_are.placed.roles
 
 pub unassigned_roles-before-requires-clause-known : goal.unassigned_roles-before-requires-clause-known
 unassigned_roles-before-requires-clause-known g c = le-same _ _ c.len-count.ensures
@@ -426,10 +422,10 @@ pub returns-clause-course : goal.returns-clause-course
 returns-clause-course g c = ap (λ p. p.course) c.moving.view_is
 
 pub returns-in-Some-refusal-clause-given : goal.returns-in-Some-refusal-clause-given
-returns-in-Some-refusal-clause-given g c = c.write_list-done.ensures.given ∙ ap (λ p. g.B.Bank.given p.parts.bank) c.moving.view_is
+returns-in-Some-refusal-clause-given g c = c.write_list-done.ensures.keeps.bank.same ∙ ap (λ p. g.B.Bank.given p.parts.bank) c.moving.view_is
 
 pub returns-clause-given : goal.returns-clause-given
-returns-clause-given g c = c.write_list-done.ensures.given ∙ ap (λ p. g.B.Bank.given p.parts.bank) c.moving.view_is
+returns-clause-given g c = c.write_list-done.ensures.keeps.bank.same ∙ ap (λ p. g.B.Bank.given p.parts.bank) c.moving.view_is
 
 pub check_going-requires : goal.check_going-requires
 check_going-requires g c = subst (λ p. IsCallGoing p.parts.entries c.args.who) (sym c.moving.view_is) c.requires.open

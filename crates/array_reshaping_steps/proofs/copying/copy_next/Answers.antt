@@ -13,33 +13,33 @@ use Rattle.array_reshaping_steps.proofs.copying.copy_next.Goals as goal
 
 pub overflow_cast-count : goal.overflow_cast-count
 overflow_cast-count g c =
-    let few = few-roles c.args.members.now.newest c.requires.placed.fit.valid in
-    let roles = c.requires.placed.roles in
+    let few = few-roles c.args.members.now.newest c.requires.stands.placed.fit.valid in
+    let roles = c.requires.stands.placed.roles in
     let long = c.len-count.ensures in
     omega (arith, few, roles, long)
 
 pub unassigned_roles-before-requires-clause-few : goal.unassigned_roles-before-requires-clause-few
 unassigned_roles-before-requires-clause-few g c =
-    let few = few-roles c.args.members.now.newest c.requires.placed.fit.valid in
-    let roles = c.requires.placed.roles in
+    let few = few-roles c.args.members.now.newest c.requires.stands.placed.fit.valid in
+    let roles = c.requires.stands.placed.roles in
     let long = c.len-count.ensures in
     omega (arith, few, roles, long)
 
 pub newly_unassigned-requires-clause-few : goal.newly_unassigned-requires-clause-few
 newly_unassigned-requires-clause-few g c =
-    let few = few-roles c.args.members.now.newest c.requires.placed.fit.valid in
-    let roles = c.requires.placed.roles in
+    let few = few-roles c.args.members.now.newest c.requires.stands.placed.fit.valid in
+    let roles = c.requires.stands.placed.roles in
     let long = c.len-count.ensures in
     omega (arith, few, roles, long)
 
 pub overflow_sub-width : goal.overflow_sub-width
-overflow_sub-width g c = span-order c.args.members.now.newest c.requires.placed.fit c.args.span.now c.requires.next
+overflow_sub-width g c = span-order c.args.members.now.newest c.requires.stands.placed.fit c.args.span.now c.requires.next
 
 pub returns-clause-since : goal.returns-clause-since
 returns-clause-since g c =
     lost-since (g.B.Bank.given c.args.bank.now) c.args.members.now c.copy-done.new.members c.len-count.result c.unassigned_roles-before.result c.newly_unassigned.result c.copy-done.result.spares
-    (g.B.Bank.faults_of c.args.bank.now) (g.B.Bank.faults_of c.copy-done.new.bank) c.requires.placed c.copy-done.ensures.moved c.copy-done.ensures.failed
-    (c.len-count.ensures ∙ c.requires.placed.roles) c.unassigned_roles-before.ensures c.newly_unassigned.ensures
+    (g.B.Bank.faults_of c.args.bank.now) (g.B.Bank.faults_of c.copy-done.new.bank) c.requires.stands.placed c.copy-done.ensures.keeps.moved c.copy-done.ensures.keeps.failed
+    (c.len-count.ensures ∙ c.requires.stands.placed.roles) c.unassigned_roles-before.ensures c.newly_unassigned.ensures
 
 pub returns-clause-stands : goal.returns-clause-stands
 returns-clause-stands g c = λ none t list copied row at.
@@ -65,7 +65,10 @@ returns-clause-others g c = λ t.
 -- ---- by what stands above
 
 pub newly_unassigned-requires-clause-known : goal.newly_unassigned-requires-clause-known
-newly_unassigned-requires-clause-known g c = known-moved c.len-count.result c.copy-done.ensures.moved c.len-count.ensures c.requires.placed.roles
+newly_unassigned-requires-clause-known g c = known-moved c.len-count.result c.copy-done.ensures.keeps.moved c.len-count.ensures c.requires.stands.placed.roles
 
-pub returns-clause-counts : goal.returns-clause-counts
-returns-clause-counts g c = c.copy-done.ensures.counts
+pub returns-clause-bank : goal.returns-clause-bank
+returns-clause-bank g c = c.copy-done.ensures.keeps.bank
+
+pub copy-done-requires-clause-stands : goal.copy-done-requires-clause-stands
+copy-done-requires-clause-stands g c = c.requires.stands

@@ -129,14 +129,14 @@ invariant_of-moving-in-Some-refusal g c =
     let whole : (with_items a.window written).items ≡ written = written-whole a.window.len a.window.items written (c.enter_next-tried.auto.window ∙ ap (λ (l : List ℕ). length l) c.as_mut_slice.ensures.value) a.window.ok.0 in
     let kept = subst (λ (l : List ℕ). IsMoving g.B.Bank.tells given tape' scope a.epoch.first (a.epoch.entries.items ++ entries_of c.args.who end (losses_of tried.roles tried.spares ++ Refused refusal ∷ [])) m (bears a.work) a.work.resync
     (record a.course { window = tried.window }) (bytes_in tried.window l) (left_in a.work m (record a.course { window = tried.window }) a.ahead)) (sym whole)
-    (enter-refused a.course a.ahead tried.window span written c.args.who c.ops-end-2.result tried.roles tried.spares shut at was.kept synced was.full c.in_default.ensures goes c.requires.caller c.ops-end-2.ensures.count did.grows next
+    (enter-refused a.course a.ahead tried.window span written c.args.who c.ops-end-2.result tried.roles tried.spares shut at was.kept synced was.full c.in_default.ensures goes c.requires.caller c.ops-end-2.ensures.count did.bank.grows next
     (elim (when-some _ _ tried.refusal refusal c.in-Some-refusal.is did.window) [ inl none ↦ inl none | inr unsure ↦ inr unsure.0 ])
     refusal (elim (when-some _ _ tried.refusal refusal c.in-Some-refusal.is did.refused) [ inl many ↦ inl many | inr fault ↦ inr fault.0 ])) in
     with-buffer (let len = (with_items a.buffer c.enter_next-tried.new.scratch).ok.0 in let ok = a.buffer.ok.0 in omega (arith, len, ok, was.buffer_fits))
-    (ready-moved (entries_of c.args.who end (losses_of tried.roles tried.spares ++ Refused refusal ∷ [])) was did.grows (shapes-moved given a.members m did.moved) kept (λ span is. inr (did.dead span is))
-    (let len = (with_items a.window written).ok.0 in let ok = a.window.ok.0 in omega (arith, len, ok)) did.counts (behind-keeps c.args.who end tried.roles tried.spares (Refused refusal) (λ n. refl) (λ limit. refl))
+    (ready-moved (entries_of c.args.who end (losses_of tried.roles tried.spares ++ Refused refusal ∷ [])) was did.bank.grows (shapes-moved given a.members m did.moved) kept (λ span is. inr (did.dead span is))
+    (let len = (with_items a.window written).ok.0 in let ok = a.window.ok.0 in omega (arith, len, ok)) did.bank.counts (behind-keeps c.args.who end tried.roles tried.spares (Refused refusal) (λ n. refl) (λ limit. refl))
     (behind-whole tape' scope a.epoch.first a.epoch.entries.items c.args.who end tried.roles tried.spares (Refused refusal) did.moved (missing-since tried.roles did.moved did.since.vacant))
-    did.given (scope-same given (Some a.backup) did.given c.append_after_losses.ensures.uuid c.append_after_losses.ensures.given) c.append_after_losses.ensures.first refl c.append_after_losses.ensures.items
+    did.bank.same (scope-same given (Some a.backup) did.bank.same c.append_after_losses.ensures.uuid c.append_after_losses.ensures.given) c.append_after_losses.ensures.first refl c.append_after_losses.ensures.items
     (let had = was.room_left in let room = c.append_after_losses.ensures.room in omega (arith, room, had, steps)))
 
 pub returns-in-Some-refusal-clause-called : goal.returns-in-Some-refusal-clause-called
@@ -150,10 +150,10 @@ returns-in-Some-refusal-clause-called g c =
     let after = g.B.Bank.faults_of c.enter_next-tried.new.bank in
     let end = c.ops-end-2.result in
     let event = Refused c.in-Some-refusal.refusal in
-    rw (← c.moving.view_is) (called did.grows did.moved
+    rw (← c.moving.view_is) (called did.bank.grows did.moved
     (ended-behind (g.B.Bank.tape c.enter_next-tried.new.bank) c.append_after_losses.new.epoch.first a.epoch.entries.items c.args.who end (losses_of tried.roles tried.spares) event c.append_after_losses.ensures.items c.ops-end-2.ensures.count)
     (losses-behind a.members m before after a.epoch.entries.items a.epoch.entries.items c.append_after_losses.new.epoch.entries.items c.args.who end tried.roles tried.spares event did.since tt refl c.append_after_losses.ensures.items)
-    did.counts
+    did.bank.counts
     (record { uuid = c.append_after_losses.ensures.uuid; given = c.append_after_losses.ensures.given; first = c.append_after_losses.ensures.first; backup = refl; work = refl; ahead = refl; limit = refl })
     (λ t. (was.kept.recorded t).begun))
 
@@ -212,13 +212,13 @@ invariant_of-moving-2 g c =
     let whole : (with_items a.window written).items ≡ written = written-whole a.window.len a.window.items written (c.enter_next-tried.auto.window ∙ ap (λ (l : List ℕ). length l) c.as_mut_slice.ensures.value) a.window.ok.0 in
     let kept = subst (λ (l : List ℕ). IsMoving g.B.Bank.tells given tape' scope a.epoch.first (a.epoch.entries.items ++ entries_of c.args.who end (losses_of tried.roles tried.spares ++ Step EntersWindow left ∷ [])) m (bears a.work) a.work.resync
     (record a.course { window = tried.window }) (bytes_in tried.window l) (left_in a.work m (record a.course { window = tried.window }) a.ahead)) (sym whole)
-    (enter-done a.course a.ahead tried.window span written c.args.who c.ops-end-2.result tried.roles tried.spares shut at was.kept synced was.full c.in_default.ensures goes c.requires.caller c.ops-end-2.ensures.count did.grows next
+    (enter-done a.course a.ahead tried.window span written c.args.who c.ops-end-2.result tried.roles tried.spares shut at was.kept synced was.full c.in_default.ensures goes c.requires.caller c.ops-end-2.ensures.count did.bank.grows next
     c.is_window_critical-sectioned.result (when-none _ _ tried.refusal c.in_default-refusal.is did.window) (λ critical. c.is_window_critical-sectioned.ensures ∙ critical) left c.all_left-left.ensures) in
     with-buffer (let len = (with_items a.buffer c.enter_next-tried.new.scratch).ok.0 in let ok = a.buffer.ok.0 in omega (arith, len, ok, was.buffer_fits))
-    (ready-moved (entries_of c.args.who end (losses_of tried.roles tried.spares ++ Step EntersWindow left ∷ [])) was did.grows (shapes-moved given a.members m did.moved) kept (λ span is. inr (did.dead span is))
-    (let len = (with_items a.window written).ok.0 in let ok = a.window.ok.0 in omega (arith, len, ok)) did.counts (behind-keeps c.args.who end tried.roles tried.spares (Step EntersWindow left) (λ n. refl) (λ limit. refl))
+    (ready-moved (entries_of c.args.who end (losses_of tried.roles tried.spares ++ Step EntersWindow left ∷ [])) was did.bank.grows (shapes-moved given a.members m did.moved) kept (λ span is. inr (did.dead span is))
+    (let len = (with_items a.window written).ok.0 in let ok = a.window.ok.0 in omega (arith, len, ok)) did.bank.counts (behind-keeps c.args.who end tried.roles tried.spares (Step EntersWindow left) (λ n. refl) (λ limit. refl))
     (behind-whole tape' scope a.epoch.first a.epoch.entries.items c.args.who end tried.roles tried.spares (Step EntersWindow left) did.moved (missing-since tried.roles did.moved did.since.vacant))
-    did.given (scope-same given (Some a.backup) did.given c.append_after_losses-2.ensures.uuid c.append_after_losses-2.ensures.given) c.append_after_losses-2.ensures.first refl c.append_after_losses-2.ensures.items
+    did.bank.same (scope-same given (Some a.backup) did.bank.same c.append_after_losses-2.ensures.uuid c.append_after_losses-2.ensures.given) c.append_after_losses-2.ensures.first refl c.append_after_losses-2.ensures.items
     (let had = was.room_left in let room = c.append_after_losses-2.ensures.room in omega (arith, room, had, steps)))
 
 pub returns-clause-called : goal.returns-clause-called
@@ -232,10 +232,10 @@ returns-clause-called g c =
     let after = g.B.Bank.faults_of c.enter_next-tried.new.bank in
     let end = c.ops-end-2.result in
     let event = Step EntersWindow c.all_left-left.result in
-    rw (← c.moving.view_is) (called did.grows did.moved
+    rw (← c.moving.view_is) (called did.bank.grows did.moved
     (ended-behind (g.B.Bank.tape c.enter_next-tried.new.bank) c.append_after_losses-2.new.epoch.first a.epoch.entries.items c.args.who end (losses_of tried.roles tried.spares) event c.append_after_losses-2.ensures.items c.ops-end-2.ensures.count)
     (losses-behind a.members m before after a.epoch.entries.items a.epoch.entries.items c.append_after_losses-2.new.epoch.entries.items c.args.who end tried.roles tried.spares event did.since tt refl c.append_after_losses-2.ensures.items)
-    did.counts
+    did.bank.counts
     (record { uuid = c.append_after_losses-2.ensures.uuid; given = c.append_after_losses-2.ensures.given; first = c.append_after_losses-2.ensures.first; backup = refl; work = refl; ahead = refl; limit = refl })
     (λ t. (was.kept.recorded t).begun))
 
@@ -277,7 +277,7 @@ returns-clause-left g c =
       safe = λ t on told list room gone unclean stands filled allowed before. did.safe t (world_in given tape scope a.epoch.first) told list room gone unclean its (stored t on).section stands filled allowed before;
     } in
     rw (← c.moving.view_is) (enter-left a.course a.ahead tried.window span written c.args.who c.ops-end-2.result tried.roles tried.spares shut at was.kept synced was.full c.in_default.ensures goes c.requires.caller
-    c.ops-end-2.ensures.count did.grows next c.is_window_critical-sectioned.result (when-none _ _ tried.refusal c.in_default-refusal.is did.window))
+    c.ops-end-2.ensures.count did.bank.grows next c.is_window_critical-sectioned.result (when-none _ _ tried.refusal c.in_default-refusal.is did.window))
 
 pub returns-clause-opened : goal.returns-clause-opened
 returns-clause-opened g c =
@@ -325,17 +325,13 @@ unreachable-requires g c =
 pub is_window_critical-sectioned-requires-clause-next : goal.is_window_critical-sectioned-requires-clause-next
 is_window_critical-sectioned-requires-clause-next g c = sym c.in-Some-next_window_of.ensures.value
 
-pub enter_next-tried-requires-clause-slots : goal.enter_next-tried-requires-clause-slots
-enter_next-tried-requires-clause-slots g c = c.moving.invariant.kept.slots
-
-pub enter_next-tried-requires-clause-placed : goal.enter_next-tried-requires-clause-placed
-enter_next-tried-requires-clause-placed g c = c.moving.invariant.kept.members_are.placed
-
-pub enter_next-tried-requires-clause-unlost : goal.enter_next-tried-requires-clause-unlost
-enter_next-tried-requires-clause-unlost g c = c.moving.invariant.kept.members_are.unlost
-
-pub enter_next-tried-requires-clause-free : goal.enter_next-tried-requires-clause-free
-enter_next-tried-requires-clause-free g c = c.moving.invariant.kept.members_are.free
+pub enter_next-tried-requires-clause-stands : goal.enter_next-tried-requires-clause-stands
+enter_next-tried-requires-clause-stands g c = record {
+  slots = c.moving.invariant.kept.slots;
+  placed = c.moving.invariant.kept.members_are.placed;
+  unlost = c.moving.invariant.kept.members_are.unlost;
+  free = c.moving.invariant.kept.members_are.free;
+}
 
 pub enter_next-tried-requires-clause-next : goal.enter_next-tried-requires-clause-next
 enter_next-tried-requires-clause-next g c = sym c.in-Some-next_window_of.ensures.value
@@ -373,7 +369,7 @@ pub returns-in-Some-refusal-clause-room : goal.returns-in-Some-refusal-clause-ro
 returns-in-Some-refusal-clause-room g c = one-fewer c.moving.inside.steps c.args.moving.now.parts.steps (ap (λ p. p.parts.steps) c.moving.view_is) c.requires.room
 
 pub returns-in-Some-refusal-clause-given : goal.returns-in-Some-refusal-clause-given
-returns-in-Some-refusal-clause-given g c = c.enter_next-tried.ensures.given ∙ ap (λ p. g.B.Bank.given p.parts.bank) c.moving.view_is
+returns-in-Some-refusal-clause-given g c = c.enter_next-tried.ensures.bank.same ∙ ap (λ p. g.B.Bank.given p.parts.bank) c.moving.view_is
 
 pub all_left-left-requires-clause-fit : goal.all_left-left-requires-clause-fit
 all_left-left-requires-clause-fit g c = c.enter_next-tried.ensures.moved.placed.fit
@@ -414,4 +410,4 @@ pub returns-clause-room : goal.returns-clause-room
 returns-clause-room g c = one-fewer c.moving.inside.steps c.args.moving.now.parts.steps (ap (λ p. p.parts.steps) c.moving.view_is) c.requires.room
 
 pub returns-clause-given : goal.returns-clause-given
-returns-clause-given g c = c.enter_next-tried.ensures.given ∙ ap (λ p. g.B.Bank.given p.parts.bank) c.moving.view_is
+returns-clause-given g c = c.enter_next-tried.ensures.bank.same ∙ ap (λ p. g.B.Bank.given p.parts.bank) c.moving.view_is

@@ -142,14 +142,14 @@ invariant_of-moving-in-Some-refusal g c =
       safe = did.safe;
     } in
     let kept = finish-refused a.course a.ahead a.window.items span c.in-Entered.copied c.finish_rest-rest.result.copied c.in-Entered.sectioned c.args.who end roles spares was.kept due goes c.requires.caller c.ops-end-2.ensures.count
-    did.grows c.in_default.ensures c.finish_rest-rest.result.refusal
+    did.bank.grows c.in_default.ensures c.finish_rest-rest.result.refusal
     (subst (λ (l : List ℕ). IsFinishedBy g.B.Bank.tells given tape tape' a.members m (final_shape a.members.newest) span c.in-Entered.copied c.finish_rest-rest.result.copied (take (512 * (span.hi - span.lo)) l) roles c.finish_rest-rest.result.refusal) c.as_slice.ensures.value by)
     refusal c.in-Some-refusal.is in
     let moved = moved-if given span a.members m c.finish_rest-rest.result.refusal refusal c.in-Some-refusal.is did.moved in
     with-buffer (let len = (with_items a.buffer c.finish_rest-rest.new.scratch).ok.0 in let ok = a.buffer.ok.0 in omega (arith, len, ok, was.buffer_fits))
-    (ready (entries_of c.args.who end (losses_of roles spares ++ Refused refusal ∷ [])) was did.grows (shapes-moved given a.members m moved) kept
-    refl did.counts (behind-keeps c.args.who end roles spares (Refused refusal) (λ n. refl) (λ limit. refl))
-    (behind-whole tape' scope a.epoch.first a.epoch.entries.items c.args.who end roles spares (Refused refusal) moved (missing-since roles moved did.since.vacant)) did.given (scope-same given (Some a.backup) did.given c.append_after_losses.ensures.uuid c.append_after_losses.ensures.given) c.append_after_losses.ensures.first refl c.append_after_losses.ensures.items
+    (ready (entries_of c.args.who end (losses_of roles spares ++ Refused refusal ∷ [])) was did.bank.grows (shapes-moved given a.members m moved) kept
+    refl did.bank.counts (behind-keeps c.args.who end roles spares (Refused refusal) (λ n. refl) (λ limit. refl))
+    (behind-whole tape' scope a.epoch.first a.epoch.entries.items c.args.who end roles spares (Refused refusal) moved (missing-since roles moved did.since.vacant)) did.bank.same (scope-same given (Some a.backup) did.bank.same c.append_after_losses.ensures.uuid c.append_after_losses.ensures.given) c.append_after_losses.ensures.first refl c.append_after_losses.ensures.items
     (room-after-49 a.steps a.epoch.entries.room c.append_after_losses.new.epoch.entries.room was.room_left c.append_after_losses.ensures.room steps))
 
 pub returns-in-Some-refusal-clause-called : goal.returns-in-Some-refusal-clause-called
@@ -165,10 +165,10 @@ returns-in-Some-refusal-clause-called g c =
     let spares = c.finish_rest-rest.result.spares in
     let end = c.ops-end-2.result in
     let event = Refused c.in-Some-refusal.refusal in
-    called-over g.B.Bank.given g.B.Bank.tape g.B.Bank.faults_of c.moving.view_is (called did.grows (moved-if given c.in-Entered.span a.members m c.finish_rest-rest.result.refusal c.in-Some-refusal.refusal c.in-Some-refusal.is did.moved)
+    called-over g.B.Bank.given g.B.Bank.tape g.B.Bank.faults_of c.moving.view_is (called did.bank.grows (moved-if given c.in-Entered.span a.members m c.finish_rest-rest.result.refusal c.in-Some-refusal.refusal c.in-Some-refusal.is did.moved)
     (ended-behind (g.B.Bank.tape c.finish_rest-rest.new.bank) c.append_after_losses.new.epoch.first a.epoch.entries.items c.args.who end (losses_of roles spares) event c.append_after_losses.ensures.items c.ops-end-2.ensures.count)
     (losses-behind a.members m before after a.epoch.entries.items a.epoch.entries.items c.append_after_losses.new.epoch.entries.items c.args.who end roles spares event did.since tt refl c.append_after_losses.ensures.items)
-    did.counts
+    did.bank.counts
     (record { uuid = c.append_after_losses.ensures.uuid; given = c.append_after_losses.ensures.given; first = c.append_after_losses.ensures.first; backup = refl; work = refl; ahead = refl; limit = refl })
     (λ t. (was.kept.recorded t).begun))
 
@@ -217,14 +217,14 @@ invariant_of-moving-2 g c =
       safe = did.safe;
     } in
     let kept = finish-done a.course a.ahead a.window.items span c.in-Entered.copied c.finish_rest-rest.result.copied c.in-Entered.sectioned c.args.who end roles spares was.kept due goes c.requires.caller c.ops-end-2.ensures.count
-    did.grows c.in_default.ensures c.finish_rest-rest.result.refusal
+    did.bank.grows c.in_default.ensures c.finish_rest-rest.result.refusal
     (subst (λ (l : List ℕ). IsFinishedBy g.B.Bank.tells given tape tape' a.members m (final_shape a.members.newest) span c.in-Entered.copied c.finish_rest-rest.result.copied (take (512 * (span.hi - span.lo)) l) roles c.finish_rest-rest.result.refusal) c.as_slice.ensures.value by)
     left none c.all_left-left.ensures in
     let moved = moved-none given span a.members m c.finish_rest-rest.result.refusal none did.moved in
     with-buffer (let len = (with_items a.buffer c.finish_rest-rest.new.scratch).ok.0 in let ok = a.buffer.ok.0 in omega (arith, len, ok, was.buffer_fits))
-    (ready-moved (entries_of c.args.who end (losses_of roles spares ++ Step FinishesWindow left ∷ [])) was did.grows (shapes-past given a.members m span moved) kept (λ next is. closed-sure next is)
-    refl did.counts (behind-keeps c.args.who end roles spares (Step FinishesWindow left) (λ n. refl) (λ limit. refl))
-    (behind-whole {old = moved_past span a.members} tape' scope a.epoch.first a.epoch.entries.items c.args.who end roles spares (Step FinishesWindow left) moved (missing-since {old = moved_past span a.members} roles moved did.since.vacant)) did.given (scope-same given (Some a.backup) did.given c.append_after_losses-2.ensures.uuid c.append_after_losses-2.ensures.given) c.append_after_losses-2.ensures.first refl c.append_after_losses-2.ensures.items
+    (ready-moved (entries_of c.args.who end (losses_of roles spares ++ Step FinishesWindow left ∷ [])) was did.bank.grows (shapes-past given a.members m span moved) kept (λ next is. closed-sure next is)
+    refl did.bank.counts (behind-keeps c.args.who end roles spares (Step FinishesWindow left) (λ n. refl) (λ limit. refl))
+    (behind-whole {old = moved_past span a.members} tape' scope a.epoch.first a.epoch.entries.items c.args.who end roles spares (Step FinishesWindow left) moved (missing-since {old = moved_past span a.members} roles moved did.since.vacant)) did.bank.same (scope-same given (Some a.backup) did.bank.same c.append_after_losses-2.ensures.uuid c.append_after_losses-2.ensures.given) c.append_after_losses-2.ensures.first refl c.append_after_losses-2.ensures.items
     (room-after-49 a.steps a.epoch.entries.room c.append_after_losses-2.new.epoch.entries.room was.room_left c.append_after_losses-2.ensures.room steps))
 
 pub returns-clause-stood : goal.returns-clause-stood
@@ -263,12 +263,12 @@ returns-clause-stood g c =
       safe = did.safe;
     } in
     let stands = finish-stands a.course a.ahead a.window.items span c.in-Entered.copied c.finish_rest-rest.result.copied c.in-Entered.sectioned c.args.who end roles spares was.kept due goes c.requires.caller c.ops-end-2.ensures.count
-    did.grows c.in_default.ensures c.finish_rest-rest.result.refusal
+    did.bank.grows c.in_default.ensures c.finish_rest-rest.result.refusal
     (subst (λ (l : List ℕ). IsFinishedBy g.B.Bank.tells given tape tape' a.members m (final_shape a.members.newest) span c.in-Entered.copied c.finish_rest-rest.result.copied (take (512 * (span.hi - span.lo)) l) roles c.finish_rest-rest.result.refusal) c.as_slice.ensures.value by)
     left none c.all_left-left.ensures in
     rw (← c.moving.view_is) (λ t.
     subst (λ (w : Window). IsWindowStanding (open_in w) (world_in given' tape' (scope_in given' epoch.uuid epoch.given (Some a.backup)) epoch.first) epoch.entries.items m (present given' tape')) (sym c.in-Entered.is)
-    (recorded-as (Some span) tape' m did.given (scope-same given (Some a.backup) did.given c.append_after_losses-2.ensures.uuid c.append_after_losses-2.ensures.given) c.append_after_losses-2.ensures.first c.append_after_losses-2.ensures.items (stands t)))
+    (recorded-as (Some span) tape' m did.bank.same (scope-same given (Some a.backup) did.bank.same c.append_after_losses-2.ensures.uuid c.append_after_losses-2.ensures.given) c.append_after_losses-2.ensures.first c.append_after_losses-2.ensures.items (stands t)))
 
 pub returns-clause-goes : goal.returns-clause-goes
 returns-clause-goes g c =
@@ -295,12 +295,12 @@ returns-clause-called g c =
     let event = Step FinishesWindow c.all_left-left.result in
     let moved = moved-none given c.in-Entered.span a.members m c.finish_rest-rest.result.refusal c.in_default-refusal.is did.moved in
     called-over g.B.Bank.given g.B.Bank.tape g.B.Bank.faults_of c.moving.view_is (record {
-      grows = did.grows;
+      grows = did.bank.grows;
       ended = ended-behind (g.B.Bank.tape c.finish_rest-rest.new.bank) c.append_after_losses-2.new.epoch.first a.epoch.entries.items c.args.who end (losses_of roles spares) event c.append_after_losses-2.ensures.items c.ops-end-2.ensures.count;
       held = moved.held;
       spares = moved.fewer;
       losses = losses-behind a.members m before after a.epoch.entries.items a.epoch.entries.items c.append_after_losses-2.new.epoch.entries.items c.args.who end roles spares event did.since tt refl c.append_after_losses-2.ensures.items;
-      never_falls = did.counts;
+      never_falls = did.bank.counts;
       work = refl;
       same = record {
         array = record {
@@ -311,7 +311,7 @@ returns-clause-called g c =
           shape = moved.shape;
           size = moved.size;
           list = list-same given scope a.epoch.first refl
-              (scope-same given (Some a.backup) refl c.append_after_losses-2.ensures.uuid c.append_after_losses-2.ensures.given) c.append_after_losses-2.ensures.first did.grows (λ t. (was.kept.recorded t).begun);
+              (scope-same given (Some a.backup) refl c.append_after_losses-2.ensures.uuid c.append_after_losses-2.ensures.given) c.append_after_losses-2.ensures.first did.bank.grows (λ t. (was.kept.recorded t).begun);
         };
         final = moved.reshape.final;
         backward = moved.reshape.backward;
@@ -393,23 +393,19 @@ returns-in-Some-refusal-clause-entered g c = rw (← c.moving.view_is) (record {
 pub returns-clause-entered : goal.returns-clause-entered
 returns-clause-entered g c = step-entered c.finish_rest-rest.result.roles c.finish_rest-rest.result.spares c.ops-end-2.result c.append_after_losses-2.ensures.items c.all_left-left.ensures (ap (λ p. p.parts.entries) c.moving.view_is)
 
-pub finish_rest-rest-requires-clause-placed : goal.finish_rest-rest-requires-clause-placed
-finish_rest-rest-requires-clause-placed g c = c.moving.invariant.kept.members_are.placed
-
-pub finish_rest-rest-requires-clause-unlost : goal.finish_rest-rest-requires-clause-unlost
-finish_rest-rest-requires-clause-unlost g c = c.moving.invariant.kept.members_are.unlost
-
-pub finish_rest-rest-requires-clause-free : goal.finish_rest-rest-requires-clause-free
-finish_rest-rest-requires-clause-free g c = c.moving.invariant.kept.members_are.free
-
-pub finish_rest-rest-requires-clause-slots : goal.finish_rest-rest-requires-clause-slots
-finish_rest-rest-requires-clause-slots g c = c.moving.invariant.kept.slots
+pub finish_rest-rest-requires-clause-stands : goal.finish_rest-rest-requires-clause-stands
+finish_rest-rest-requires-clause-stands g c = record {
+  slots = c.moving.invariant.kept.slots;
+  placed = c.moving.invariant.kept.members_are.placed;
+  unlost = c.moving.invariant.kept.members_are.unlost;
+  free = c.moving.invariant.kept.members_are.free;
+}
 
 pub returns-in-Some-refusal-clause-given : goal.returns-in-Some-refusal-clause-given
-returns-in-Some-refusal-clause-given g c = c.finish_rest-rest.ensures.given ∙ ap (λ p. g.B.Bank.given p.parts.bank) c.moving.view_is
+returns-in-Some-refusal-clause-given g c = c.finish_rest-rest.ensures.bank.same ∙ ap (λ p. g.B.Bank.given p.parts.bank) c.moving.view_is
 
 pub returns-clause-given : goal.returns-clause-given
-returns-clause-given g c = c.finish_rest-rest.ensures.given ∙ ap (λ p. g.B.Bank.given p.parts.bank) c.moving.view_is
+returns-clause-given g c = c.finish_rest-rest.ensures.bank.same ∙ ap (λ p. g.B.Bank.given p.parts.bank) c.moving.view_is
 
 pub returns-in-Some-clause-given : goal.returns-in-Some-clause-given
 returns-in-Some-clause-given g c = ap (λ p. g.B.Bank.given p.parts.bank) c.moving.view_is

@@ -13,27 +13,27 @@ use Rattle.array_reshaping_steps.proofs.finishing.finish_rest.Goals as goal
 
 pub overflow_cast-count : goal.overflow_cast-count
 overflow_cast-count g c =
-    let few = few-roles c.args.members.now.newest c.requires.placed.fit.valid in
-    let roles = c.requires.placed.roles in
+    let few = few-roles c.args.members.now.newest c.requires.stands.placed.fit.valid in
+    let roles = c.requires.stands.placed.roles in
     let long = c.len-count.ensures in
     omega (arith, few, roles, long)
 
 pub unassigned_roles-before-requires-clause-few : goal.unassigned_roles-before-requires-clause-few
 unassigned_roles-before-requires-clause-few g c =
-    let few = few-roles c.args.members.now.newest c.requires.placed.fit.valid in
-    let roles = c.requires.placed.roles in
+    let few = few-roles c.args.members.now.newest c.requires.stands.placed.fit.valid in
+    let roles = c.requires.stands.placed.roles in
     let long = c.len-count.ensures in
     omega (arith, few, roles, long)
 
 pub newly_unassigned-requires-clause-few : goal.newly_unassigned-requires-clause-few
 newly_unassigned-requires-clause-few g c =
-    let few = few-roles c.args.members.now.newest c.requires.placed.fit.valid in
-    let roles = c.requires.placed.roles in
+    let few = few-roles c.args.members.now.newest c.requires.stands.placed.fit.valid in
+    let roles = c.requires.stands.placed.roles in
     let long = c.len-count.ensures in
     omega (arith, few, roles, long)
 
 pub overflow_sub-width : goal.overflow_sub-width
-overflow_sub-width g c = span-order c.args.members.now.newest c.requires.placed.fit c.args.span.now c.requires.next
+overflow_sub-width g c = span-order c.args.members.now.newest c.requires.stands.placed.fit c.args.span.now c.requires.next
 
 pub finish_window-done-requires-clause-from : goal.finish_window-done-requires-clause-from
 finish_window-done-requires-clause-from g c =
@@ -43,7 +43,7 @@ pub returns-clause-since : goal.returns-clause-since
 returns-clause-since g c =
     finished-since (g.B.Bank.given c.args.bank.now) c.args.members.now c.finish_window-done.new.members c.args.span.now c.finish_window-done.result.refusal c.finish_window-done.ensures.moved
     c.len-count.result c.unassigned_roles-before.result c.newly_unassigned.result c.finish_window-done.result.spares (g.B.Bank.faults_of c.args.bank.now) (g.B.Bank.faults_of c.finish_window-done.new.bank)
-    c.requires.placed c.requires.next c.finish_window-done.ensures.failed (c.len-count.ensures ∙ c.requires.placed.roles) c.unassigned_roles-before.ensures c.newly_unassigned.ensures
+    c.requires.stands.placed c.requires.next c.finish_window-done.ensures.failed (c.len-count.ensures ∙ c.requires.stands.placed.roles) c.unassigned_roles-before.ensures c.newly_unassigned.ensures
 
 pub returns-clause-all : goal.returns-clause-all
 returns-clause-all g c = λ none. c.finish_window-done.ensures.all none ∙ ap (λ (s : Shape). stripes s c.args.span.now.lo c.args.span.now.hi) c.final_in-shape.ensures
@@ -71,7 +71,10 @@ returns-clause-others g c = λ t.
 -- ---- by what stands above
 
 pub newly_unassigned-requires-clause-known : goal.newly_unassigned-requires-clause-known
-newly_unassigned-requires-clause-known g c = known-finished _ c.args.span.now _ _ c.len-count.result c.finish_window-done.result.refusal c.finish_window-done.ensures.moved c.len-count.ensures c.requires.placed.roles
+newly_unassigned-requires-clause-known g c = known-finished _ c.args.span.now _ _ c.len-count.result c.finish_window-done.result.refusal c.finish_window-done.ensures.moved c.len-count.ensures c.requires.stands.placed.roles
 
-pub returns-clause-counts : goal.returns-clause-counts
-returns-clause-counts g c = c.finish_window-done.ensures.counts
+pub returns-clause-bank : goal.returns-clause-bank
+returns-clause-bank g c = c.finish_window-done.ensures.bank
+
+pub finish_window-done-requires-clause-stands : goal.finish_window-done-requires-clause-stands
+finish_window-done-requires-clause-stands g c = c.requires.stands

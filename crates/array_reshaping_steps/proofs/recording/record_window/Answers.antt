@@ -122,10 +122,10 @@ invariant_of-moving-in-Some-refusal g c =
     let moved = moved-if given c.in-Entered.span a.members m c.record-done.result.refusal refusal c.in-Some-refusal.is did.moved in
     let since = lost-since given a.members m c.len-count.result c.unassigned_roles-before.result roles spares before after here.placed moved did.failed
     (c.len-count.ensures ∙ here.backed.roles) c.unassigned_roles-before.ensures c.newly_unassigned-roles.ensures in
-    let kept = record-refused a.course a.ahead c.in-Entered.span c.args.who end roles spares was.kept (live-of was.kept c.in_default.ensures) goes c.requires.caller c.ops-end-2.ensures.count did.grows since did.clean did.rise did.others
+    let kept = record-refused a.course a.ahead c.in-Entered.span c.args.who end roles spares was.kept (live-of was.kept c.in_default.ensures) goes c.requires.caller c.ops-end-2.ensures.count did.bank.grows since did.clean did.rise did.others
     c.record-done.result.refusal refusal c.in-Some-refusal.is moved (many-of m c.record-done.result.refusal refusal c.in-Some-refusal.is did.refused) did.unused did.safe in
-    ready (entries_of c.args.who end (losses_of roles spares ++ Refused refusal ∷ [])) was did.grows (shapes-moved given a.members m moved) kept
-    refl did.counts (behind-keeps c.args.who end roles spares (Refused refusal) (λ n. refl) (λ limit. refl)) (behind-whole tape' (scope_in given a.epoch.uuid a.epoch.given (Some a.backup)) a.epoch.first a.epoch.entries.items c.args.who end roles spares (Refused refusal) moved (missing-since roles moved since.vacant)) did.given (scope-same given (Some a.backup) did.given c.append_after_losses.ensures.uuid c.append_after_losses.ensures.given) c.append_after_losses.ensures.first refl c.append_after_losses.ensures.items
+    ready (entries_of c.args.who end (losses_of roles spares ++ Refused refusal ∷ [])) was did.bank.grows (shapes-moved given a.members m moved) kept
+    refl did.bank.counts (behind-keeps c.args.who end roles spares (Refused refusal) (λ n. refl) (λ limit. refl)) (behind-whole tape' (scope_in given a.epoch.uuid a.epoch.given (Some a.backup)) a.epoch.first a.epoch.entries.items c.args.who end roles spares (Refused refusal) moved (missing-since roles moved since.vacant)) did.bank.same (scope-same given (Some a.backup) did.bank.same c.append_after_losses.ensures.uuid c.append_after_losses.ensures.given) c.append_after_losses.ensures.first refl c.append_after_losses.ensures.items
     (omega (arith, c.append_after_losses.ensures.room, was.room_left, some))
 
 pub returns-in-Some-refusal-clause-called : goal.returns-in-Some-refusal-clause-called
@@ -145,10 +145,10 @@ returns-in-Some-refusal-clause-called g c =
     let moved = moved-if given c.in-Entered.span a.members m c.record-done.result.refusal refusal c.in-Some-refusal.is did.moved in
     let since = lost-since given a.members m c.len-count.result c.unassigned_roles-before.result roles spares before after here.placed moved did.failed
     (c.len-count.ensures ∙ here.backed.roles) c.unassigned_roles-before.ensures c.newly_unassigned-roles.ensures in
-    rw (← c.moving.view_is) (called did.grows moved
+    rw (← c.moving.view_is) (called did.bank.grows moved
     (ended-behind (g.B.Bank.tape c.record-done.new.bank) c.append_after_losses.new.epoch.first a.epoch.entries.items c.args.who end (losses_of roles spares) (Refused refusal) c.append_after_losses.ensures.items c.ops-end-2.ensures.count)
     (losses-behind a.members m before after a.epoch.entries.items a.epoch.entries.items c.append_after_losses.new.epoch.entries.items c.args.who end roles spares (Refused refusal) since tt refl c.append_after_losses.ensures.items)
-    did.counts
+    did.bank.counts
     (record { uuid = c.append_after_losses.ensures.uuid; given = c.append_after_losses.ensures.given; first = c.append_after_losses.ensures.first; backup = refl; work = refl; ahead = refl; limit = refl })
     (λ t. (was.kept.recorded t).begun))
 
@@ -188,10 +188,10 @@ invariant_of-moving-2 g c =
     let next = subst (λ (s : Span). next_window a.members.newest ≡ Some s) (sym same) (window-next a.course due.span _ due.sectioned due.is was.kept.course_is) in
     let since = since-past given a.members m c.in-Entered.span c.len-count.result c.unassigned_roles-before.result roles spares before after here.placed next moved did.failed
     (c.len-count.ensures ∙ here.backed.roles) c.unassigned_roles-before.ensures c.newly_unassigned-roles.ensures in
-    let kept = record-done a.course a.ahead c.in-Entered.span c.args.who end roles spares was.kept (live-of was.kept c.in_default.ensures) goes c.requires.caller c.ops-end-2.ensures.count did.grows since did.clean did.rise did.others
+    let kept = record-done a.course a.ahead c.in-Entered.span c.args.who end roles spares was.kept (live-of was.kept c.in_default.ensures) goes c.requires.caller c.ops-end-2.ensures.count did.bank.grows since did.clean did.rise did.others
     due.sectioned left is c.all_left-left.ensures moved c.in_default.ensures (λ t. did.plain none t (scope_in given a.epoch.uuid a.epoch.given (Some a.backup))) (safe-none-of c.record-done.result.refusal none did.safe) in
-    ready-moved (entries_of c.args.who end (losses_of roles spares ++ Step RecordsWindow left ∷ [])) was did.grows (shapes-past given a.members m c.in-Entered.span moved) kept (λ span is. closed-sure span is)
-    refl did.counts (behind-keeps c.args.who end roles spares (Step RecordsWindow left) (λ n. refl) (λ limit. refl)) (behind-whole {old = moved_past c.in-Entered.span a.members} tape' (scope_in given a.epoch.uuid a.epoch.given (Some a.backup)) a.epoch.first a.epoch.entries.items c.args.who end roles spares (Step RecordsWindow left) moved (missing-since {old = moved_past c.in-Entered.span a.members} roles moved since.vacant)) did.given (scope-same given (Some a.backup) did.given c.append_after_losses-2.ensures.uuid c.append_after_losses-2.ensures.given) c.append_after_losses-2.ensures.first refl c.append_after_losses-2.ensures.items
+    ready-moved (entries_of c.args.who end (losses_of roles spares ++ Step RecordsWindow left ∷ [])) was did.bank.grows (shapes-past given a.members m c.in-Entered.span moved) kept (λ span is. closed-sure span is)
+    refl did.bank.counts (behind-keeps c.args.who end roles spares (Step RecordsWindow left) (λ n. refl) (λ limit. refl)) (behind-whole {old = moved_past c.in-Entered.span a.members} tape' (scope_in given a.epoch.uuid a.epoch.given (Some a.backup)) a.epoch.first a.epoch.entries.items c.args.who end roles spares (Step RecordsWindow left) moved (missing-since {old = moved_past c.in-Entered.span a.members} roles moved since.vacant)) did.bank.same (scope-same given (Some a.backup) did.bank.same c.append_after_losses-2.ensures.uuid c.append_after_losses-2.ensures.given) c.append_after_losses-2.ensures.first refl c.append_after_losses-2.ensures.items
     (omega (arith, c.append_after_losses-2.ensures.room, was.room_left, some))
 
 pub returns-clause-called : goal.returns-clause-called
@@ -216,12 +216,12 @@ returns-clause-called g c =
     let since = since-past given a.members m c.in-Entered.span c.len-count.result c.unassigned_roles-before.result roles spares before after here.placed next moved did.failed
     (c.len-count.ensures ∙ here.backed.roles) c.unassigned_roles-before.ensures c.newly_unassigned-roles.ensures in
     rw (← c.moving.view_is) (record {
-      grows = did.grows;
+      grows = did.bank.grows;
       ended = ended-behind (g.B.Bank.tape c.record-done.new.bank) c.append_after_losses-2.new.epoch.first a.epoch.entries.items c.args.who end (losses_of roles spares) event c.append_after_losses-2.ensures.items c.ops-end-2.ensures.count;
       held = moved.held;
       spares = moved.fewer;
       losses = losses-behind a.members m before after a.epoch.entries.items a.epoch.entries.items c.append_after_losses-2.new.epoch.entries.items c.args.who end roles spares event since tt refl c.append_after_losses-2.ensures.items;
-      never_falls = did.counts;
+      never_falls = did.bank.counts;
       work = refl;
       same = record {
         array = record {
@@ -232,7 +232,7 @@ returns-clause-called g c =
           shape = moved.shape;
           size = moved.size;
           list = list-same given scope a.epoch.first refl
-              (scope-same given (Some a.backup) refl c.append_after_losses-2.ensures.uuid c.append_after_losses-2.ensures.given) c.append_after_losses-2.ensures.first did.grows (λ t. (was.kept.recorded t).begun);
+              (scope-same given (Some a.backup) refl c.append_after_losses-2.ensures.uuid c.append_after_losses-2.ensures.given) c.append_after_losses-2.ensures.first did.bank.grows (λ t. (was.kept.recorded t).begun);
         };
         final = moved.reshape.final;
         backward = moved.reshape.backward;
@@ -282,17 +282,13 @@ returns-in-Some-clause-room g c = one-fewer c.moving.inside.steps c.args.moving.
 pub returns-in-Some-clause-given : goal.returns-in-Some-clause-given
 returns-in-Some-clause-given g c = ap (λ p. g.B.Bank.given p.parts.bank) c.moving.view_is
 
-pub record-done-requires-clause-slots : goal.record-done-requires-clause-slots
-record-done-requires-clause-slots g c = c.moving.invariant.kept.slots
-
-pub record-done-requires-clause-placed : goal.record-done-requires-clause-placed
-record-done-requires-clause-placed g c = c.moving.invariant.kept.members_are.placed
-
-pub record-done-requires-clause-unlost : goal.record-done-requires-clause-unlost
-record-done-requires-clause-unlost g c = c.moving.invariant.kept.members_are.unlost
-
-pub record-done-requires-clause-free : goal.record-done-requires-clause-free
-record-done-requires-clause-free g c = c.moving.invariant.kept.members_are.free
+pub record-done-requires-clause-stands : goal.record-done-requires-clause-stands
+record-done-requires-clause-stands g c = record {
+  slots = c.moving.invariant.kept.slots;
+  placed = c.moving.invariant.kept.members_are.placed;
+  unlost = c.moving.invariant.kept.members_are.unlost;
+  free = c.moving.invariant.kept.members_are.free;
+}
 
 pub record-done-requires-clause-next : goal.record-done-requires-clause-next
 record-done-requires-clause-next g c =
@@ -325,7 +321,7 @@ pub returns-in-Some-refusal-clause-room : goal.returns-in-Some-refusal-clause-ro
 returns-in-Some-refusal-clause-room g c = one-fewer c.moving.inside.steps c.args.moving.now.parts.steps (ap (λ p. p.parts.steps) c.moving.view_is) c.requires.room
 
 pub returns-in-Some-refusal-clause-given : goal.returns-in-Some-refusal-clause-given
-returns-in-Some-refusal-clause-given g c = c.record-done.ensures.given ∙ ap (λ p. g.B.Bank.given p.parts.bank) c.moving.view_is
+returns-in-Some-refusal-clause-given g c = c.record-done.ensures.bank.same ∙ ap (λ p. g.B.Bank.given p.parts.bank) c.moving.view_is
 
 pub all_left-left-requires-clause-fit : goal.all_left-left-requires-clause-fit
 all_left-left-requires-clause-fit g c = (moved-none (g.B.Bank.given c.moving.inside.bank) c.in-Entered.span c.moving.inside.members c.record-done.new.members c.record-done.result.refusal c.in_default-refusal.is c.record-done.ensures.moved).placed.fit
@@ -355,4 +351,4 @@ pub returns-clause-room : goal.returns-clause-room
 returns-clause-room g c = one-fewer c.moving.inside.steps c.args.moving.now.parts.steps (ap (λ p. p.parts.steps) c.moving.view_is) c.requires.room
 
 pub returns-clause-given : goal.returns-clause-given
-returns-clause-given g c = c.record-done.ensures.given ∙ ap (λ p. g.B.Bank.given p.parts.bank) c.moving.view_is
+returns-clause-given g c = c.record-done.ensures.bank.same ∙ ap (λ p. g.B.Bank.given p.parts.bank) c.moving.view_is

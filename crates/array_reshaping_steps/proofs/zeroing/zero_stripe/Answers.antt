@@ -132,15 +132,15 @@ invariant_of-moving-in-Some-refusal g c =
     let spares = c.zero-done.result.spares in
     let end = c.ops-end-2.result in
     let refusal = c.in-Some-refusal.refusal in
-    let since = lost-since given a.members m c.len-count.result c.unassigned_roles-before.result roles spares before after here.placed did.moved did.failed
+    let since = lost-since given a.members m c.len-count.result c.unassigned_roles-before.result roles spares before after here.placed did.keeps.moved did.keeps.failed
     (c.len-count.ensures ∙ here.backed.roles) c.unassigned_roles-before.ensures c.newly_unassigned-roles.ensures in
     let step = zero-step given a.members m tape tape' c.final_in-shape.result c.stripe_to_zero-stripe.result a.course.zeroed roles spares before after c.final_in-shape.ensures c.stripe_to_zero-stripe.ensures.value
-    did.moved did.grows since did.clean did.rise did.unused did.others did.safe in
+    did.keeps.moved did.keeps.bank.grows since did.clean did.keeps.rise did.keeps.unused did.others did.safe in
     let kept = zero-refused a.course a.ahead c.args.who end roles spares is due.through synced was.kept (live-of was.kept c.in_default.ensures) goes c.requires.caller c.ops-end-2.ensures.count step refusal
     (many-of m c.zero-done.result.refusal refusal c.in-Some-refusal.is did.refused) in
     with-buffer (let len = (with_items a.buffer c.zero-done.new.scratch).ok.0 in let ok = a.buffer.ok.0 in omega (arith, len, ok, was.buffer_fits))
-    (ready (entries_of c.args.who end (losses_of roles spares ++ Refused refusal ∷ [])) was did.grows (shapes-moved given a.members m did.moved) kept
-    refl did.counts (behind-keeps c.args.who end roles spares (Refused refusal) (λ n. refl) (λ limit. refl)) (behind-whole tape' (scope_in given a.epoch.uuid a.epoch.given (Some a.backup)) a.epoch.first a.epoch.entries.items c.args.who end roles spares (Refused refusal) did.moved (missing-since roles did.moved since.vacant)) did.given (scope-same given (Some a.backup) did.given c.append_after_losses.ensures.uuid c.append_after_losses.ensures.given) c.append_after_losses.ensures.first refl c.append_after_losses.ensures.items
+    (ready (entries_of c.args.who end (losses_of roles spares ++ Refused refusal ∷ [])) was did.keeps.bank.grows (shapes-moved given a.members m did.keeps.moved) kept
+    refl did.keeps.bank.counts (behind-keeps c.args.who end roles spares (Refused refusal) (λ n. refl) (λ limit. refl)) (behind-whole tape' (scope_in given a.epoch.uuid a.epoch.given (Some a.backup)) a.epoch.first a.epoch.entries.items c.args.who end roles spares (Refused refusal) did.keeps.moved (missing-since roles did.keeps.moved since.vacant)) did.keeps.bank.same (scope-same given (Some a.backup) did.keeps.bank.same c.append_after_losses.ensures.uuid c.append_after_losses.ensures.given) c.append_after_losses.ensures.first refl c.append_after_losses.ensures.items
     (omega (arith, c.append_after_losses.ensures.room, was.room_left, some)))
 
 pub returns-in-Some-refusal-clause-called : goal.returns-in-Some-refusal-clause-called
@@ -157,12 +157,12 @@ returns-in-Some-refusal-clause-called g c =
     let spares = c.zero-done.result.spares in
     let end = c.ops-end-2.result in
     let refusal = c.in-Some-refusal.refusal in
-    let since = lost-since given a.members m c.len-count.result c.unassigned_roles-before.result roles spares before after here.placed did.moved did.failed
+    let since = lost-since given a.members m c.len-count.result c.unassigned_roles-before.result roles spares before after here.placed did.keeps.moved did.keeps.failed
     (c.len-count.ensures ∙ here.backed.roles) c.unassigned_roles-before.ensures c.newly_unassigned-roles.ensures in
-    rw (← c.moving.view_is) (called did.grows did.moved
+    rw (← c.moving.view_is) (called did.keeps.bank.grows did.keeps.moved
     (ended-behind (g.B.Bank.tape c.zero-done.new.bank) c.append_after_losses.new.epoch.first a.epoch.entries.items c.args.who end (losses_of roles spares) (Refused refusal) c.append_after_losses.ensures.items c.ops-end-2.ensures.count)
     (losses-behind a.members m before after a.epoch.entries.items a.epoch.entries.items c.append_after_losses.new.epoch.entries.items c.args.who end roles spares (Refused refusal) since tt refl c.append_after_losses.ensures.items)
-    did.counts
+    did.keeps.bank.counts
     (record { uuid = c.append_after_losses.ensures.uuid; given = c.append_after_losses.ensures.given; first = c.append_after_losses.ensures.first; backup = refl; work = refl; ahead = refl; limit = refl })
     (λ t. (was.kept.recorded t).begun))
 
@@ -209,15 +209,15 @@ invariant_of-moving-2 g c =
     let spares = c.zero-done.result.spares in
     let end = c.ops-end-2.result in
     let left = c.all_left-left.result in
-    let since = lost-since given a.members m c.len-count.result c.unassigned_roles-before.result roles spares before after here.placed did.moved did.failed
+    let since = lost-since given a.members m c.len-count.result c.unassigned_roles-before.result roles spares before after here.placed did.keeps.moved did.keeps.failed
     (c.len-count.ensures ∙ here.backed.roles) c.unassigned_roles-before.ensures c.newly_unassigned-roles.ensures in
     let step = zero-step given a.members m tape tape' c.final_in-shape.result c.stripe_to_zero-stripe.result a.course.zeroed roles spares before after c.final_in-shape.ensures c.stripe_to_zero-stripe.ensures.value
-    did.moved did.grows since did.clean did.rise did.unused did.others did.safe in
+    did.keeps.moved did.keeps.bank.grows since did.clean did.keeps.rise did.keeps.unused did.others did.safe in
     let kept = zero-done a.course a.ahead c.args.who end roles spares is due.through synced was.kept (live-of was.kept c.in_default.ensures) goes c.requires.caller c.ops-end-2.ensures.count step left c.all_left-left.ensures more
     (rows-zeroed given a.members m tape' c.final_in-shape.result c.stripe_to_zero-stripe.result a.course.zeroed c.final_in-shape.ensures c.stripe_to_zero-stripe.ensures.value (did.stands c.in_default-refusal.is)) in
     with-buffer (let len = (with_items a.buffer c.zero-done.new.scratch).ok.0 in let ok = a.buffer.ok.0 in omega (arith, len, ok, was.buffer_fits))
-    (ready (entries_of c.args.who end (losses_of roles spares ++ Step ZeroesStripe left ∷ [])) was did.grows (shapes-moved given a.members m did.moved) kept
-    refl did.counts (behind-keeps c.args.who end roles spares (Step ZeroesStripe left) (λ n. refl) (λ limit. refl)) (behind-whole tape' (scope_in given a.epoch.uuid a.epoch.given (Some a.backup)) a.epoch.first a.epoch.entries.items c.args.who end roles spares (Step ZeroesStripe left) did.moved (missing-since roles did.moved since.vacant)) did.given (scope-same given (Some a.backup) did.given c.append_after_losses-2.ensures.uuid c.append_after_losses-2.ensures.given) c.append_after_losses-2.ensures.first refl c.append_after_losses-2.ensures.items
+    (ready (entries_of c.args.who end (losses_of roles spares ++ Step ZeroesStripe left ∷ [])) was did.keeps.bank.grows (shapes-moved given a.members m did.keeps.moved) kept
+    refl did.keeps.bank.counts (behind-keeps c.args.who end roles spares (Step ZeroesStripe left) (λ n. refl) (λ limit. refl)) (behind-whole tape' (scope_in given a.epoch.uuid a.epoch.given (Some a.backup)) a.epoch.first a.epoch.entries.items c.args.who end roles spares (Step ZeroesStripe left) did.keeps.moved (missing-since roles did.keeps.moved since.vacant)) did.keeps.bank.same (scope-same given (Some a.backup) did.keeps.bank.same c.append_after_losses-2.ensures.uuid c.append_after_losses-2.ensures.given) c.append_after_losses-2.ensures.first refl c.append_after_losses-2.ensures.items
     (omega (arith, c.append_after_losses-2.ensures.room, was.room_left, some)))
 
 pub returns-clause-called : goal.returns-clause-called
@@ -234,12 +234,12 @@ returns-clause-called g c =
     let spares = c.zero-done.result.spares in
     let end = c.ops-end-2.result in
     let event = Step ZeroesStripe c.all_left-left.result in
-    let since = lost-since given a.members m c.len-count.result c.unassigned_roles-before.result roles spares before after here.placed did.moved did.failed
+    let since = lost-since given a.members m c.len-count.result c.unassigned_roles-before.result roles spares before after here.placed did.keeps.moved did.keeps.failed
     (c.len-count.ensures ∙ here.backed.roles) c.unassigned_roles-before.ensures c.newly_unassigned-roles.ensures in
-    rw (← c.moving.view_is) (called did.grows did.moved
+    rw (← c.moving.view_is) (called did.keeps.bank.grows did.keeps.moved
     (ended-behind (g.B.Bank.tape c.zero-done.new.bank) c.append_after_losses-2.new.epoch.first a.epoch.entries.items c.args.who end (losses_of roles spares) event c.append_after_losses-2.ensures.items c.ops-end-2.ensures.count)
     (losses-behind a.members m before after a.epoch.entries.items a.epoch.entries.items c.append_after_losses-2.new.epoch.entries.items c.args.who end roles spares event since tt refl c.append_after_losses-2.ensures.items)
-    did.counts
+    did.keeps.bank.counts
     (record { uuid = c.append_after_losses-2.ensures.uuid; given = c.append_after_losses-2.ensures.given; first = c.append_after_losses-2.ensures.first; backup = refl; work = refl; ahead = refl; limit = refl })
     (λ t. (was.kept.recorded t).begun))
 
@@ -274,17 +274,13 @@ stripe_to_zero-stripe-requires-clause-zeroed g c =
     let due = subst (λ p. IsZeroDue p) (sym c.moving.view_is) c.requires.due in
     subst (λ (k : Course). k.zeroed < zeroed_by c.moving.inside.members.newest) (sym due.is) due.more
 
-pub zero-done-requires-clause-slots : goal.zero-done-requires-clause-slots
-zero-done-requires-clause-slots g c = c.moving.invariant.kept.slots
-
-pub zero-done-requires-clause-placed : goal.zero-done-requires-clause-placed
-zero-done-requires-clause-placed g c = c.moving.invariant.kept.members_are.placed
-
-pub zero-done-requires-clause-unlost : goal.zero-done-requires-clause-unlost
-zero-done-requires-clause-unlost g c = c.moving.invariant.kept.members_are.unlost
-
-pub zero-done-requires-clause-free : goal.zero-done-requires-clause-free
-zero-done-requires-clause-free g c = c.moving.invariant.kept.members_are.free
+pub zero-done-requires-clause-stands : goal.zero-done-requires-clause-stands
+zero-done-requires-clause-stands g c = record {
+  slots = c.moving.invariant.kept.slots;
+  placed = c.moving.invariant.kept.members_are.placed;
+  unlost = c.moving.invariant.kept.members_are.unlost;
+  free = c.moving.invariant.kept.members_are.free;
+}
 
 pub zero-done-requires-clause-shape : goal.zero-done-requires-clause-shape
 zero-done-requires-clause-shape g c = c.final_in-shape.ensures
@@ -295,7 +291,7 @@ zero-done-requires-clause-scratch g c =
 
 pub newly_unassigned-roles-requires-clause-known : goal.newly_unassigned-roles-requires-clause-known
 newly_unassigned-roles-requires-clause-known g c =
-    roles-moved (g.B.Bank.given c.moving.inside.bank) c.moving.inside.members c.zero-done.new.members c.zero-done.ensures.moved c.len-count.result c.len-count.ensures c.moving.invariant.kept.members_are.placed.roles
+    roles-moved (g.B.Bank.given c.moving.inside.bank) c.moving.inside.members c.zero-done.new.members c.zero-done.ensures.keeps.moved c.len-count.result c.len-count.ensures c.moving.invariant.kept.members_are.placed.roles
 
 pub append_after_losses-requires-clause-room : goal.append_after_losses-requires-clause-room
 append_after_losses-requires-clause-room g c = room-behind c.moving.inside.steps c.args.moving.now.parts.steps c.moving.inside.epoch.entries.room (ap (λ p. p.parts.steps) c.moving.view_is) c.requires.room c.moving.invariant.room_left
@@ -317,14 +313,14 @@ pub returns-in-Some-refusal-clause-room : goal.returns-in-Some-refusal-clause-ro
 returns-in-Some-refusal-clause-room g c = one-fewer c.moving.inside.steps c.args.moving.now.parts.steps (ap (λ p. p.parts.steps) c.moving.view_is) c.requires.room
 
 pub returns-in-Some-refusal-clause-given : goal.returns-in-Some-refusal-clause-given
-returns-in-Some-refusal-clause-given g c = c.zero-done.ensures.given ∙ ap (λ p. g.B.Bank.given p.parts.bank) c.moving.view_is
+returns-in-Some-refusal-clause-given g c = c.zero-done.ensures.keeps.bank.same ∙ ap (λ p. g.B.Bank.given p.parts.bank) c.moving.view_is
 
 pub all_left-left-requires-clause-fit : goal.all_left-left-requires-clause-fit
-all_left-left-requires-clause-fit g c = c.zero-done.ensures.moved.placed.fit
+all_left-left-requires-clause-fit g c = c.zero-done.ensures.keeps.moved.placed.fit
 
 pub all_left-left-requires-clause-reshape : goal.all_left-left-requires-clause-reshape
 all_left-left-requires-clause-reshape g c =
-    under-way-moved (g.B.Bank.given c.moving.inside.bank) c.moving.inside.members c.zero-done.new.members c.zero-done.ensures.moved c.moving.invariant.kept.members_are.active
+    under-way-moved (g.B.Bank.given c.moving.inside.bank) c.moving.inside.members c.zero-done.new.members c.zero-done.ensures.keeps.moved c.moving.invariant.kept.members_are.active
 
 pub all_left-left-requires-clause-open : goal.all_left-left-requires-clause-open
 all_left-left-requires-clause-open g c =
@@ -334,12 +330,12 @@ all_left-left-requires-clause-open g c =
 pub all_left-left-requires-clause-zeroed : goal.all_left-left-requires-clause-zeroed
 all_left-left-requires-clause-zeroed g c =
     let due = subst (λ p. IsZeroDue p) (sym c.moving.view_is) c.requires.due in
-    zeroed-moved (g.B.Bank.given c.moving.inside.bank) c.moving.inside.members c.zero-done.new.members c.zero-done.ensures.moved (c.moving.inside.course.zeroed + 1)
+    zeroed-moved (g.B.Bank.given c.moving.inside.bank) c.moving.inside.members c.zero-done.new.members c.zero-done.ensures.keeps.moved (c.moving.inside.course.zeroed + 1)
     (next-within c.moving.inside.course.zeroed _ (subst (λ (k : Course). k.zeroed < zeroed_by c.moving.inside.members.newest) (sym due.is) due.more))
 
 pub all_left-left-requires-clause-sound : goal.all_left-left-requires-clause-sound
 all_left-left-requires-clause-sound g c =
-    sound-moved (g.B.Bank.given c.moving.inside.bank) c.moving.inside.members c.zero-done.new.members c.zero-done.ensures.moved (phases_of c.moving.inside.ahead) c.moving.invariant.planned
+    sound-moved (g.B.Bank.given c.moving.inside.bank) c.moving.inside.members c.zero-done.new.members c.zero-done.ensures.keeps.moved (phases_of c.moving.inside.ahead) c.moving.invariant.planned
 
 pub append_after_losses-requires-2-clause-room : goal.append_after_losses-requires-2-clause-room
 append_after_losses-requires-2-clause-room g c = room-behind c.moving.inside.steps c.args.moving.now.parts.steps c.moving.inside.epoch.entries.room (ap (λ p. p.parts.steps) c.moving.view_is) c.requires.room c.moving.invariant.room_left
@@ -361,7 +357,7 @@ pub returns-clause-left : goal.returns-clause-left
 returns-clause-left g c =
     let a = c.moving.inside in
     let due = subst (λ p. IsZeroDue p) (sym c.moving.view_is) c.requires.due in
-    rw (← c.moving.view_is) (zero-left (g.B.Bank.given c.moving.inside.bank) a.members c.zero-done.new.members a.work.resync a.course a.ahead c.zero-done.ensures.moved c.moving.invariant.kept.members_are.active (closed-at a.course due.zeroed due.is)
+    rw (← c.moving.view_is) (zero-left (g.B.Bank.given c.moving.inside.bank) a.members c.zero-done.new.members a.work.resync a.course a.ahead c.zero-done.ensures.keeps.moved c.moving.invariant.kept.members_are.active (closed-at a.course due.zeroed due.is)
     (subst (λ (k : Course). k.zeroed < zeroed_by c.moving.inside.members.newest) (sym due.is) due.more))
 
 pub returns-clause-zeroed : goal.returns-clause-zeroed
@@ -374,7 +370,7 @@ pub returns-clause-room : goal.returns-clause-room
 returns-clause-room g c = one-fewer c.moving.inside.steps c.args.moving.now.parts.steps (ap (λ p. p.parts.steps) c.moving.view_is) c.requires.room
 
 pub returns-clause-given : goal.returns-clause-given
-returns-clause-given g c = c.zero-done.ensures.given ∙ ap (λ p. g.B.Bank.given p.parts.bank) c.moving.view_is
+returns-clause-given g c = c.zero-done.ensures.keeps.bank.same ∙ ap (λ p. g.B.Bank.given p.parts.bank) c.moving.view_is
 
 pub zero-done-requires-clause-stripe : goal.zero-done-requires-clause-stripe
 zero-done-requires-clause-stripe g c =

@@ -34,6 +34,7 @@ use Rattle.array_takeover.proofs.taking.take_over.Goals as goal
 -- ---- why it isn't done
 
 -- a plan was told
+
 pub give_back-requires-clause-told : goal.give_back-requires-clause-told
 give_back-requires-clause-told g c =
     let p = c.take_apart-pieces.result in
@@ -124,10 +125,10 @@ of_pieces-requires g c =
       failed = did.failed;
       free = did.free;
       others = did.others;
-      grows = did.grows;
+      grows = did.bank.grows;
       rise = did.rise;
       safe = did.safe;
-      counts = did.counts;
+      counts = did.bank.counts;
     } in
     let left_is : c.told_of-told.result.left ≡ still_left (work_then to p.work) new behind = c.told_of-told.ensures.left ∙ ap (λ (w : Work). still_left w new behind) c.mark_unbuilt.ensures.work in
     let spares_is : c.told_of-told.result.spares ≡ spares = c.told_of-told.ensures.spares in
@@ -136,7 +137,7 @@ of_pieces-requires g c =
           (λ (w : Work). IsReady g.B.Bank.tells (g.B.Bank.given bank) (g.B.Bank.tape bank) (scope_in (g.B.Bank.given bank) epoch.uuid epoch.given p.backup) epoch.first epoch.entries.items new w behind p.limit
           (g.B.Bank.faults_of bank) (p.steps - 1) epoch.entries.room (vec_capacity p.rows) (length p.buffer.items) (vec_capacity p.far_rows) (length p.far_buffer.items)) (sym c.mark_unbuilt.ensures.work)
           (taken-ready p.ahead behind to c.in-Ok.slot who end roles spares was goes c.requires.caller idle next lead c.in-Ok.ensures.whole c.in-Ok.ensures.chosen update c.ops-end.ensures.count c.mark_unbuilt.ensures.long c.told_of-told.ensures.roles
-          did.given (scope-same given p.backup did.given c.enter_taken.ensures.uuid c.enter_taken.ensures.given) c.enter_taken.ensures.first refl
+          did.bank.same (scope-same given p.backup did.bank.same c.enter_taken.ensures.uuid c.enter_taken.ensures.given) c.enter_taken.ensures.first refl
           (c.enter_taken.ensures.items ∙ (λ i. p.epoch.entries.items ++ entries_of who end (Step TakenOver (left_is i) ∷ losses_of roles (spares_is i))))
           (let had = was.room_left in let room = c.enter_taken.ensures.room in omega (arith, had, room, some)));
     }
@@ -170,10 +171,10 @@ returns-clause-taken g c =
       failed = did.failed;
       free = did.free;
       others = did.others;
-      grows = did.grows;
+      grows = did.bank.grows;
       rise = did.rise;
       safe = did.safe;
-      counts = did.counts;
+      counts = did.bank.counts;
     } in
     let left_is : c.told_of-told.result.left ≡ still_left (work_then to p.work) new behind = c.told_of-told.ensures.left ∙ ap (λ (w : Work). still_left w new behind) c.mark_unbuilt.ensures.work in
     let spares_is : c.told_of-told.result.spares ≡ spares = c.told_of-told.ensures.spares in
@@ -195,7 +196,7 @@ returns-clause-taken g c =
       };
       ended = λ t. ap (λ (l : List Entry). last_end_from c.enter_taken.new.epoch.first l) items
           ∙ call-ends c.enter_taken.new.epoch.first p.epoch.entries.items who end (Step TakenOver (still_left (work_then to p.work) new behind)) (losses_of roles spares) ∙ c.ops-end.ensures.count t;
-      grows = did.grows;
+      grows = did.bank.grows;
       left = subst (λ (w : Work). AreStepsFewer p.epoch.entries.items c.enter_taken.new.epoch.entries.items (still_left p.work p.members p.ahead) (still_left w new behind)) (sym c.mark_unbuilt.ensures.work)
           (taken-fewer p.ahead behind to c.in-Ok.slot who end roles spares was goes c.requires.caller idle next lead c.in-Ok.ensures.whole c.in-Ok.ensures.chosen update c.ops-end.ensures.count c.mark_unbuilt.ensures.long
           c.told_of-told.ensures.roles refl items);
@@ -207,7 +208,7 @@ returns-clause-taken g c =
       kept = did.failed.roles;
       losses = taken-losses p.ahead behind to c.in-Ok.slot who end roles spares was goes c.requires.caller idle next lead c.in-Ok.ensures.whole c.in-Ok.ensures.chosen update c.ops-end.ensures.count c.mark_unbuilt.ensures.long
           c.told_of-told.ensures.roles refl items;
-      never_falls = did.counts;
+      never_falls = did.bank.counts;
       others = did.others;
       course = refl;
       ahead = refl;
@@ -236,17 +237,13 @@ overflow_sub-pieces g c = subst (λ s. 1 ≤ s.parts.steps) c.take_apart-pieces.
 pub check_going-requires : goal.check_going-requires
 check_going-requires g c = subst (λ s. IsCallGoing s.parts.entries c.args.who) c.take_apart-pieces.ensures.same c.requires.open
 
-pub take_over-spares-requires-clause-slots : goal.take_over-spares-requires-clause-slots
-take_over-spares-requires-clause-slots g c = c.take_apart-pieces.ensures.ready.kept.slots
-
-pub take_over-spares-requires-clause-placed : goal.take_over-spares-requires-clause-placed
-take_over-spares-requires-clause-placed g c = c.take_apart-pieces.ensures.ready.kept.members_are.placed
-
-pub take_over-spares-requires-clause-unlost : goal.take_over-spares-requires-clause-unlost
-take_over-spares-requires-clause-unlost g c = c.take_apart-pieces.ensures.ready.kept.members_are.unlost
-
-pub take_over-spares-requires-clause-free : goal.take_over-spares-requires-clause-free
-take_over-spares-requires-clause-free g c = c.take_apart-pieces.ensures.ready.kept.members_are.free
+pub take_over-spares-requires-clause-stands : goal.take_over-spares-requires-clause-stands
+take_over-spares-requires-clause-stands g c = record {
+  slots = c.take_apart-pieces.ensures.ready.kept.slots;
+  placed = c.take_apart-pieces.ensures.ready.kept.members_are.placed;
+  unlost = c.take_apart-pieces.ensures.ready.kept.members_are.unlost;
+  free = c.take_apart-pieces.ensures.ready.kept.members_are.free;
+}
 
 pub take_over-spares-requires-clause-still : goal.take_over-spares-requires-clause-still
 take_over-spares-requires-clause-still g c = c.take_apart-pieces.ensures.ready.kept.members_are.still
@@ -264,7 +261,7 @@ pub returns-in-Err-clause-refused : goal.returns-in-Err-clause-refused
 returns-in-Err-clause-refused g c = untouched-as g.B.Bank.tape c.args.who c.in-Err.refusal c.args.still c.give_back.result _ c.take_apart-pieces.ensures.same c.give_back.ensures.back
 
 pub returns-clause-given : goal.returns-clause-given
-returns-clause-given g c = both-given g.B.Bank.given c.args.still c.of_pieces.result _ _ c.take_apart-pieces.ensures.same c.of_pieces.ensures.same c.take_over-spares.ensures.given
+returns-clause-given g c = both-given g.B.Bank.given c.args.still c.of_pieces.result _ _ c.take_apart-pieces.ensures.same c.of_pieces.ensures.same c.take_over-spares.ensures.bank.same
 
 pub told_of-told-requires-clause-shape : goal.told_of-told-requires-clause-shape
 told_of-told-requires-clause-shape g c = c.take_over-spares.ensures.newest.shape

@@ -47,6 +47,7 @@ use Rattle.array_transition.proofs.beginning.begin_reshape.Goals as goal
 -- ---- why it doesn't begin
 
 -- a plan was told
+
 pub give_back-requires-clause-told : goal.give_back-requires-clause-told
 give_back-requires-clause-told g c =
     let p = c.take_apart-pieces.result in
@@ -121,7 +122,7 @@ of_pieces-requires g c =
     let next = subst (λ s. phases_of s.ahead ≡ Reshape c.args.to ∷ phases_of c.args.behind) same c.requires.next in
     let sound = next-sound (shape_of p.members.newest) p.members.newest.size (phases_of p.ahead) (phases_of c.args.behind) c.args.to was.planned next in
     let kept = fault-stands c.args.who end backup p.epoch.uuid was.kept (none-recovering given p.members are.placed can.0)
-    (begin-live given p.members c.args.to are.placed are.unlost are.free are.still sound.0 sound.1 can) turned.goes c.requires.caller c.ops-end.ensures.count did.grows
+    (begin-live given p.members c.args.to are.placed are.unlost are.free are.still sound.0 sound.1 can) turned.goes c.requires.caller c.ops-end.ensures.count did.bank.grows
     (subst (λ (k : Members). IsRisen g.B.Bank.tells p.members k tape (g.B.Bank.tape bank)) none.members did.rise) c.in-Some-backup.is refl did.others
     (λ t world told live there array over. subst (λ (k : Members). KeepsSafe world given told k tape (g.B.Bank.tape bank)) none.members (did.kept refusal is t world told live there array over)) in
     record {
@@ -129,8 +130,8 @@ of_pieces-requires g c =
           (λ (k : Members). IsReady g.B.Bank.tells (g.B.Bank.given bank) (g.B.Bank.tape bank) (scope_in (g.B.Bank.given bank) epoch.uuid epoch.given p.backup) epoch.first epoch.entries.items k p.work p.ahead p.limit
           (g.B.Bank.faults_of bank) (p.steps - 1) epoch.entries.room (vec_capacity p.rows) (length p.buffer.items) (vec_capacity p.far_rows) (length p.far_buffer.items)) (sym none.members)
           (ready (entries_of c.args.who end (Refused BackupFault ∷ [])) was (rows-same p.members.newest) kept
-          (turned-plain (turns-first p.epoch.entries.items (entries_of c.args.who end (Refused BackupFault ∷ [])) (ahead-told (phases_of p.ahead) (Reshape c.args.to) (phases_of c.args.behind) was.ahead_told next))) did.counts (alone-keeps c.args.who end (Refused BackupFault) (λ n. refl) (λ limit. refl))
-          did.given (scope-same given p.backup did.given c.append_entry.ensures.uuid c.append_entry.ensures.given) c.append_entry.ensures.first refl
+          (turned-plain (turns-first p.epoch.entries.items (entries_of c.args.who end (Refused BackupFault ∷ [])) (ahead-told (phases_of p.ahead) (Reshape c.args.to) (phases_of c.args.behind) was.ahead_told next))) did.bank.counts (alone-keeps c.args.who end (Refused BackupFault) (λ n. refl) (λ limit. refl))
+          did.bank.same (scope-same given p.backup did.bank.same c.append_entry.ensures.uuid c.append_entry.ensures.given) c.append_entry.ensures.first refl
           (c.append_entry.ensures.items ∙ ap (λ (r : Refusal). p.epoch.entries.items ++ entries_of c.args.who end (Refused r ∷ [])) fault)
           (let had = was.room_left in let room = c.append_entry.ensures.room in omega (arith, had, room, some)));
     }
@@ -165,7 +166,7 @@ returns-in-Some-refusal-clause-caused g c =
     ))
 
 pub returns-in-Some-refusal-clause-never_falls : goal.returns-in-Some-refusal-clause-never_falls
-returns-in-Some-refusal-clause-never_falls g c = both-fall-as g.B.Bank.faults_of c.args.still c.of_pieces.result _ _ c.take_apart-pieces.ensures.same c.of_pieces.ensures.same c.begin-begun.ensures.counts
+returns-in-Some-refusal-clause-never_falls g c = both-fall-as g.B.Bank.faults_of c.args.still c.of_pieces.result _ _ c.take_apart-pieces.ensures.same c.of_pieces.ensures.same c.begin-begun.ensures.bank.counts
 
 -- ---- the steps that are left
 
@@ -228,10 +229,10 @@ of_pieces-requires-2-clause-ready g c =
       free = did.free;
       plain = did.plain none;
       others = did.others;
-      grows = did.grows;
+      grows = did.bank.grows;
       rise = did.rise;
       safe = did.safe none;
-      counts = did.counts;
+      counts = did.bank.counts;
     } in
     let left_is : c.told_of-told.result.left ≡ left_by None new (closed 0) behind = c.told_of-told.ensures.left ∙ plus-none (grow_left new.newest Closed 0 (phases_of behind)) in
     let back_is : c.told_of-told.result.back ≡ goes_back (shape_of p.members.newest) to = c.told_of-told.ensures.back ∙ (did.newest none).backward in
@@ -240,8 +241,8 @@ of_pieces-requires-2-clause-ready g c =
     begun-ready p.epoch.uuid p.epoch.given backup p.ahead behind to who end roles spares was turned c.requires.caller idle next (goes_back (shape_of p.members.newest) to) refl
     (backup-here given p.members to p.backup backup backed c.in-Some-backup.is) (sym c.contains.ensures ∙ c.if-not-contains.false) c.in_default.ensures update c.ops-end.ensures.count c.check_sizes.ensures.own c.check_sizes.ensures.uuid
     c.told_of-told.ensures.roles
-    c.args.window.items wide did.given
-    (scope-same given p.backup did.given c.enter_begun.ensures.uuid c.enter_begun.ensures.given ∙ ap (λ (o : Option ℕ). scope_in given p.epoch.uuid p.epoch.given o) c.in-Some-backup.is) c.enter_begun.ensures.first refl
+    c.args.window.items wide did.bank.same
+    (scope-same given p.backup did.bank.same c.enter_begun.ensures.uuid c.enter_begun.ensures.given ∙ ap (λ (o : Option ℕ). scope_in given p.epoch.uuid p.epoch.given o) c.in-Some-backup.is) c.enter_begun.ensures.first refl
     (c.enter_begun.ensures.items ∙ (λ i. p.epoch.entries.items ++ entries_of who end (Step Begun (left_is i) ∷ begun_length (back_is i) (size_is i) ++ losses_of roles (spares_is i))))
     (let had = was.room_left in let room = c.enter_begun.ensures.room in omega (arith, had, room, some))
 
@@ -280,7 +281,7 @@ returns-clause-begun g c =
       ended = λ t. ap (λ (l : List Entry). last_end_from c.enter_begun.new.epoch.first l) items
           ∙ call-ends c.enter_begun.new.epoch.first p.epoch.entries.items who end (Step Begun (left_in p.work new (closed 0) behind))
           (begun_length (goes_back (shape_of p.members.newest) to) (list_length new.newest) ++ losses_of roles spares) ∙ c.ops-end.ensures.count t;
-      grows = did.grows;
+      grows = did.bank.grows;
       left = ap (λ (o : Option ℕ). left_by o new (closed 0) behind + 1) synced ∙ begun-left p.members new p.work p.ahead behind to (did.newest none) are.still idle next;
       start = begun-start p.members.newest new.newest to (did.newest none);
       long = λ i. list_end ((did.newest none).old i) ((did.newest none).new i) ((did.newest none).size i);
@@ -290,7 +291,7 @@ returns-clause-begun g c =
       spares_kept = λ slot was. elim ((did.failed none).told slot was) [ inl still ↦ inl still | inr gone ↦ inr ((did.failed none).spares_are slot gone) ];
       losses = begun-losses (begun_plan p.members to) new (g.B.Bank.faults_of p.bank) (g.B.Bank.faults_of c.begin-begun.new.bank) p.epoch.entries.items p.epoch.entries.items c.enter_begun.new.epoch.entries.items who end
           (left_in p.work new (closed 0) behind) (list_length new.newest) roles spares (goes_back (shape_of p.members.newest) to) since refl items;
-      never_falls = did.counts;
+      never_falls = did.bank.counts;
       clean = ap (λ (n : ℕ). n == 2 ^ 64 - 1) (did.newest none).clean;
       others = λ t slot k far which. did.others t slot k far (others-of p.backup c.in-Some-backup.backup slot k c.in-Some-backup.is which);
       course = refl;
@@ -419,10 +420,10 @@ pub returns-then-not-contains-clause-left_given : goal.returns-then-not-contains
 returns-then-not-contains-clause-left_given g c = still-given g.B.Bank.given c.args.still _ (g.B.Bank.given c.fail_backup-still.result.parts.bank) c.take_apart-pieces.ensures.same c.fail_backup-still.ensures.given
 
 pub returns-in-Some-refusal-clause-grows : goal.returns-in-Some-refusal-clause-grows
-returns-in-Some-refusal-clause-grows g c = both-grow g.B.Bank.tape c.args.still c.of_pieces.result _ _ c.take_apart-pieces.ensures.same c.of_pieces.ensures.same c.begin-begun.ensures.grows
+returns-in-Some-refusal-clause-grows g c = both-grow g.B.Bank.tape c.args.still c.of_pieces.result _ _ c.take_apart-pieces.ensures.same c.of_pieces.ensures.same c.begin-begun.ensures.bank.grows
 
 pub returns-in-Some-refusal-clause-left_given : goal.returns-in-Some-refusal-clause-left_given
-returns-in-Some-refusal-clause-left_given g c = both-given g.B.Bank.given c.args.still c.of_pieces.result _ _ c.take_apart-pieces.ensures.same c.of_pieces.ensures.same c.begin-begun.ensures.given
+returns-in-Some-refusal-clause-left_given g c = both-given g.B.Bank.given c.args.still c.of_pieces.result _ _ c.take_apart-pieces.ensures.same c.of_pieces.ensures.same c.begin-begun.ensures.bank.same
 
 pub returns-clause-given : goal.returns-clause-given
-returns-clause-given g c = both-given g.B.Bank.given c.args.still c.of_pieces-2.result _ _ c.take_apart-pieces.ensures.same c.of_pieces-2.ensures.same c.begin-begun.ensures.given
+returns-clause-given g c = both-given g.B.Bank.given c.args.still c.of_pieces-2.result _ _ c.take_apart-pieces.ensures.same c.of_pieces-2.ensures.same c.begin-begun.ensures.bank.same

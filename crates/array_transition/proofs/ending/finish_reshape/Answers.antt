@@ -170,12 +170,12 @@ of_pieces-requires-in-Some-refusal-clause-ready g c =
     (c.before_end-was.ensures.count ∙ here.placed.roles)
     (λ role. c.before_end-was.ensures.vacant role ∙ ap (λ (n : ℕ). nat_lt role n && is_unassigned (reading_of p.members) role) (sym c.before_end-was.ensures.count)) c.newly_unassigned-roles.ensures in
     let many = subst (λ (o : Option Refusal). MatchOption o (IsOver p.members.newest m.newest) (AreTooMany m)) is did.answer in
-    let kept = refused-behind course p.ahead who end roles spares refusal was.kept c.in_default-too_many.ensures goes c.requires.caller c.ops-end-2.ensures.count did.grows moved since (did.untouched refusal is).0 many
+    let kept = refused-behind course p.ahead who end roles spares refusal was.kept c.in_default-too_many.ensures goes c.requires.caller c.ops-end-2.ensures.count did.bank.grows moved since (did.untouched refusal is).0 many
     did.rise (did.untouched refusal is).1 did.others (did.kept refusal is) in
-    ready (entries_of who end (losses_of roles spares ++ Refused refusal ∷ [])) was did.grows (shapes-moved given p.members m moved) kept
-    refl did.counts (behind-keeps who end roles spares (Refused refusal) (λ n. refl) (λ limit. refl))
+    ready (entries_of who end (losses_of roles spares ++ Refused refusal ∷ [])) was did.bank.grows (shapes-moved given p.members m moved) kept
+    refl did.bank.counts (behind-keeps who end roles spares (Refused refusal) (λ n. refl) (λ limit. refl))
     (behind-whole (g.B.Bank.tape c.finish-done.new.bank) scope p.epoch.first p.epoch.entries.items who end roles spares (Refused refusal) moved (missing-since roles moved since.vacant))
-    did.given (scope-same given p.backup did.given c.append_after_losses.ensures.uuid c.append_after_losses.ensures.given) c.append_after_losses.ensures.first refl c.append_after_losses.ensures.items
+    did.bank.same (scope-same given p.backup did.bank.same c.append_after_losses.ensures.uuid c.append_after_losses.ensures.given) c.append_after_losses.ensures.first refl c.append_after_losses.ensures.items
     (let had = was.room_left in let room = c.append_after_losses.ensures.room in omega (arith, had, room, some))
 
 pub returns-in-Some-refusal-clause-caused : goal.returns-in-Some-refusal-clause-caused
@@ -206,10 +206,10 @@ returns-in-Some-refusal-clause-called g c =
     let since = lost-since given p.members m c.before_end-was.result.count vacant roles spares before after here.placed moved failed
     (c.before_end-was.ensures.count ∙ here.placed.roles)
     (λ role. c.before_end-was.ensures.vacant role ∙ ap (λ (n : ℕ). nat_lt role n && is_unassigned (reading_of p.members) role) (sym c.before_end-was.ensures.count)) c.newly_unassigned-roles.ensures in
-    called-as g.B.Bank.given g.B.Bank.tape g.B.Bank.faults_of c.args.moving c.of_pieces-in-Some-refusal.result _ _ c.take_apart-pieces.ensures.same c.of_pieces-in-Some-refusal.ensures.same (called did.grows moved
+    called-as g.B.Bank.given g.B.Bank.tape g.B.Bank.faults_of c.args.moving c.of_pieces-in-Some-refusal.result _ _ c.take_apart-pieces.ensures.same c.of_pieces-in-Some-refusal.ensures.same (called did.bank.grows moved
     (ended-behind (g.B.Bank.tape c.finish-done.new.bank) c.append_after_losses.new.epoch.first p.epoch.entries.items who end (losses_of roles spares) (Refused refusal) c.append_after_losses.ensures.items c.ops-end-2.ensures.count)
     (losses-behind p.members m before after p.epoch.entries.items p.epoch.entries.items c.append_after_losses.new.epoch.entries.items who end roles spares (Refused refusal) since tt refl c.append_after_losses.ensures.items)
-    did.counts
+    did.bank.counts
     (record { uuid = c.append_after_losses.ensures.uuid; given = c.append_after_losses.ensures.given; first = c.append_after_losses.ensures.first; backup = refl; work = refl; ahead = refl; limit = refl })
     (λ t. (was.kept.recorded t).begun))
 
@@ -247,11 +247,11 @@ of_pieces-requires-2 g c =
       states = did.states;
       offsets = did.offsets;
       others = did.others;
-      grows = did.grows;
+      grows = did.bank.grows;
       rise = did.rise;
       failed = did.failed;
       safe = did.safe none;
-      counts = did.counts;
+      counts = did.bank.counts;
     } in
     let left_is : c.ended_left-left.result ≡ still_left p.work m p.ahead = c.ended_left-left.ensures in
     let before_is : told.before ≡ list_length p.members.newest = tell.before ∙ c.before_end-was.ensures.size in
@@ -265,7 +265,7 @@ of_pieces-requires-2 g c =
           c.before_end-was.ensures.vacant tell.late
           (finish-stepped given p.members m p.work p.ahead c.take_apart-pieces.result.1 who end c.before_end-was.result.vacant roles spares told.late told.late_spares here.placed here.whole at.0 at.1 did.placed over at.2
           did.states c.before_end-was.ensures.vacant tell.late)
-          plans did.given (scope-same given p.backup did.given c.enter_ended.ensures.uuid c.enter_ended.ensures.given) c.enter_ended.ensures.first refl items
+          plans did.bank.same (scope-same given p.backup did.bank.same c.enter_ended.ensures.uuid c.enter_ended.ensures.given) c.enter_ended.ensures.first refl items
           (let had = was.room_left in let room = c.enter_ended.ensures.room in omega (arith, had, room, some));
     }
 
@@ -320,7 +320,7 @@ returns-clause-ended g c =
       };
       ended = λ t. ap (last_end_from c.enter_ended.new.epoch.first) items
           ∙ ending-last who end roles spares left longer long told.late told.late_spares c.enter_ended.new.epoch.first p.epoch.entries.items ∙ c.ops-end-2.ensures.count t;
-      grows = did.grows;
+      grows = did.bank.grows;
       over = over;
       left = λ whole none_told. finish-left given p.members m p.work p.ahead c.take_apart-pieces.result.1 who end vacant roles spares told.late told.late_spares here.placed here.whole at.0 at.1 did.placed over at.2
           did.states c.before_end-was.ensures.vacant tell.late whole
@@ -338,7 +338,7 @@ returns-clause-ended g c =
           (λ slot has. (and_parts (has_slot lost slot) (not (has_slot c.before_end-was.result.held slot)) (sym (tell.late_spares slot) ∙ has)).1)
           c.before_end-was.ensures.held
           p.epoch.entries.items p.epoch.entries.items c.enter_ended.new.epoch.entries.items who end left long longer refl items;
-      never_falls = did.counts;
+      never_falls = did.bank.counts;
       others = did.others;
       course = refl;
       ahead = refl;
@@ -369,17 +369,13 @@ before_end-was-requires-clause-fit g c = c.take_apart-pieces.ensures.ready.kept.
 pub before_end-was-requires-clause-roles : goal.before_end-was-requires-clause-roles
 before_end-was-requires-clause-roles g c = c.take_apart-pieces.ensures.ready.kept.members_are.placed.roles
 
-pub finish-done-requires-clause-slots : goal.finish-done-requires-clause-slots
-finish-done-requires-clause-slots g c = c.take_apart-pieces.ensures.ready.kept.slots
-
-pub finish-done-requires-clause-placed : goal.finish-done-requires-clause-placed
-finish-done-requires-clause-placed g c = c.take_apart-pieces.ensures.ready.kept.members_are.placed
-
-pub finish-done-requires-clause-unlost : goal.finish-done-requires-clause-unlost
-finish-done-requires-clause-unlost g c = c.take_apart-pieces.ensures.ready.kept.members_are.unlost
-
-pub finish-done-requires-clause-free : goal.finish-done-requires-clause-free
-finish-done-requires-clause-free g c = c.take_apart-pieces.ensures.ready.kept.members_are.free
+pub finish-done-requires-clause-stands : goal.finish-done-requires-clause-stands
+finish-done-requires-clause-stands g c = record {
+  slots = c.take_apart-pieces.ensures.ready.kept.slots;
+  placed = c.take_apart-pieces.ensures.ready.kept.members_are.placed;
+  unlost = c.take_apart-pieces.ensures.ready.kept.members_are.unlost;
+  free = c.take_apart-pieces.ensures.ready.kept.members_are.free;
+}
 
 pub finish-done-requires-clause-active : goal.finish-done-requires-clause-active
 finish-done-requires-clause-active g c = c.take_apart-pieces.ensures.ready.kept.members_are.active
@@ -417,7 +413,7 @@ pub returns-in-Some-refusal-clause-steps : goal.returns-in-Some-refusal-clause-s
 returns-in-Some-refusal-clause-steps g c = both-steps 2 c.args.moving c.of_pieces-in-Some-refusal.result _ _ c.take_apart-pieces.ensures.same c.of_pieces-in-Some-refusal.ensures.same refl (subst (λ s. 2 ≤ s.parts.steps) c.take_apart-pieces.ensures.same c.requires.room)
 
 pub returns-in-Some-refusal-clause-left_given : goal.returns-in-Some-refusal-clause-left_given
-returns-in-Some-refusal-clause-left_given g c = both-given g.B.Bank.given c.args.moving c.of_pieces-in-Some-refusal.result _ _ c.take_apart-pieces.ensures.same c.of_pieces-in-Some-refusal.ensures.same c.finish-done.ensures.given
+returns-in-Some-refusal-clause-left_given g c = both-given g.B.Bank.given c.args.moving c.of_pieces-in-Some-refusal.result _ _ c.take_apart-pieces.ensures.same c.of_pieces-in-Some-refusal.ensures.same c.finish-done.ensures.bank.same
 
 pub returns-in-Some-refusal-clause-refused : goal.returns-in-Some-refusal-clause-refused
 returns-in-Some-refusal-clause-refused g c =
@@ -425,7 +421,7 @@ returns-in-Some-refusal-clause-refused g c =
     (record { roles = c.newly_unassigned-roles.result; spares = c.finish-done.result.spares; end = c.ops-end-2.result; is = c.append_after_losses.ensures.items })
 
 pub returns-clause-given : goal.returns-clause-given
-returns-clause-given g c = both-given g.B.Bank.given c.args.moving c.of_pieces-2.result _ _ c.take_apart-pieces.ensures.same c.of_pieces-2.ensures.same c.finish-done.ensures.given
+returns-clause-given g c = both-given g.B.Bank.given c.args.moving c.of_pieces-2.result _ _ c.take_apart-pieces.ensures.same c.of_pieces-2.ensures.same c.finish-done.ensures.bank.same
 
 pub ended_left-left-requires-clause-sound : goal.ended_left-left-requires-clause-sound
 ended_left-left-requires-clause-sound g c =

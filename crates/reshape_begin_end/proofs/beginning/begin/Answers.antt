@@ -89,8 +89,12 @@ returns-in-Err-clause-others g c = λ tell s k other beside.
     let mid = g.B.Bank.tape c.clear_section.new.bank in
     present-kept given before mid s k (heading-kept c.args.backup (cleared_header c.args.uuid.now) (disk given.start before) (disk given.start mid) (at-end c.in-Err.ensures.each_mark tell) s k beside)
 
-pub returns-in-Err-clause-grows : goal.returns-in-Err-clause-grows
-returns-in-Err-clause-grows g c = grows-marks c.in-Err.ensures.each_mark
+pub returns-in-Err-clause-bank : goal.returns-in-Err-clause-bank
+returns-in-Err-clause-bank g c = record {
+  same = c.clear_section.ensures.given;
+  grows = grows-marks c.in-Err.ensures.each_mark;
+  counts = c.in-Err.ensures.cause.never_falls;
+}
 
 pub returns-in-Err-clause-rise : goal.returns-in-Err-clause-rise
 returns-in-Err-clause-rise g c = record { left = λ live. live; events = λ tell live. let longer = c.in-Err.ensures.each_mark.longer tell in omega (arith, longer) }
@@ -109,9 +113,6 @@ returns-in-Err-clause-kept g c = λ why is tell world told live there array safe
 
 pub returns-in-Err-clause-safe : goal.returns-in-Err-clause-safe
 returns-in-Err-clause-safe g c = λ none. absurd (cc)
-
-pub returns-in-Err-clause-counts : goal.returns-in-Err-clause-counts
-returns-in-Err-clause-counts g c = c.in-Err.ensures.cause.never_falls
 
 -- ---- it is begun
 
@@ -225,8 +226,12 @@ returns-clause-others g c = λ tell s k other beside.
     ∙ present-kept (first_given g c) (before g c) (mid g c) s k
     (heading-kept c.args.backup (cleared_header c.args.uuid.now) (disk (first_given g c).start (before g c)) (disk (first_given g c).start (mid g c)) (at-end c.in-Ok.ensures.each_mark tell) s k beside)
 
-pub returns-clause-grows : goal.returns-clause-grows
-returns-clause-grows g c = grows-then (grows-marks c.in-Ok.ensures.each_mark) (grows-marks (done g c).update.marks)
+pub returns-clause-bank : goal.returns-clause-bank
+returns-clause-bank g c = record {
+  same = c.begin_update-lost.ensures.given ∙ c.clear_section.ensures.given;
+  grows = grows-then (grows-marks c.in-Ok.ensures.each_mark) (grows-marks (done g c).update.marks);
+  counts = λ s. let first = c.clear_section.ensures.cause.never_falls s in let then = c.begin_update-lost.ensures.counts s in omega (arith, first, then);
+}
 
 pub returns-clause-rise : goal.returns-clause-rise
 returns-clause-rise g c = record {
@@ -258,9 +263,3 @@ returns-clause-safe g c = λ none tell world told more room live is former with-
     (begun-told given m to c.requires.still (roles g c) c.requires.in_force c.requires.level c.requires.placed c.requires.free (OpensFit world) world.scope told more (disk given.start (before g c)) (disk given.start (mid g c)) steady cleared
     with-plan)
     (inl (steady-then (OpensFit world) world.scope given told m c.args.backup (before g c) (mid g c) is.backup long c.requires.still live marks safe)))
-
-pub returns-clause-counts : goal.returns-clause-counts
-returns-clause-counts g c = λ s. let first = c.clear_section.ensures.cause.never_falls s in let then = c.begin_update-lost.ensures.counts s in omega (arith, first, then)
-
-pub returns-clause-given : goal.returns-clause-given
-returns-clause-given g c = c.begin_update-lost.ensures.given ∙ c.clear_section.ensures.given

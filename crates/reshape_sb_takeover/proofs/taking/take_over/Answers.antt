@@ -41,37 +41,37 @@ use Rattle.reshape_sb_takeover.proofs.taking.take_over.Goals.{After-without}
 use Rattle.reshape_sb_takeover.proofs.taking.take_over.Goals as goal
 
 pub holders_then-held-requires-clause-slot : goal.holders_then-held-requires-clause-slot
-holders_then-held-requires-clause-slot g c = small (g.B.Bank.given c.args.bank.now) c.args.members.now c.args.to.now c.args.slot c.requires.placed c.requires.free c.requires.still c.requires.valid c.requires.can
+holders_then-held-requires-clause-slot g c = small (g.B.Bank.given c.args.bank.now) c.args.members.now c.args.to.now c.args.slot c.requires.stands.placed c.requires.stands.free c.requires.still c.requires.valid c.requires.can
 
 pub holders_then-held-requires-clause-few : goal.holders_then-held-requires-clause-few
-holders_then-held-requires-clause-few g c = (let same = c.requires.placed.roles in let most = few-roles c.args.members.now.newest c.requires.placed.fit.valid in omega (arith, same, most))
+holders_then-held-requires-clause-few g c = (let same = c.requires.stands.placed.roles in let most = few-roles c.args.members.now.newest c.requires.stands.placed.fit.valid in omega (arith, same, most))
 
 pub holders_then-held-requires-clause-small : goal.holders_then-held-requires-clause-small
-holders_then-held-requires-clause-small g c = λ role slot held. (c.requires.placed.holders role slot held).small
+holders_then-held-requires-clause-small g c = λ role slot held. (c.requires.stands.placed.holders role slot held).small
 
 pub taking_over-change-requires-clause-slot : goal.taking_over-change-requires-clause-slot
-taking_over-change-requires-clause-slot g c = small (g.B.Bank.given c.args.bank.now) c.args.members.now c.args.to.now c.args.slot c.requires.placed c.requires.free c.requires.still c.requires.valid c.requires.can
+taking_over-change-requires-clause-slot g c = small (g.B.Bank.given c.args.bank.now) c.args.members.now c.args.to.now c.args.slot c.requires.stands.placed c.requires.stands.free c.requires.still c.requires.valid c.requires.can
 
 pub taking_over-change-requires-clause-disks : goal.taking_over-change-requires-clause-disks
 taking_over-change-requires-clause-disks g c = (let least = (limited c.args.to.now c.requires.valid).least in omega (arith, least))
 
 pub update-lost-requires-clause-live : goal.update-lost-requires-clause-live
-update-lost-requires-clause-live g c = c.requires.placed.live
+update-lost-requires-clause-live g c = c.requires.stands.placed.live
 
 pub update-lost-requires-clause-roles : goal.update-lost-requires-clause-roles
-update-lost-requires-clause-roles g c = (let same = c.requires.placed.roles in let most = few-roles c.args.members.now.newest c.requires.placed.fit.valid in omega (arith, same, most))
+update-lost-requires-clause-roles g c = (let same = c.requires.stands.placed.roles in let most = few-roles c.args.members.now.newest c.requires.stands.placed.fit.valid in omega (arith, same, most))
 
 pub update-lost-requires-clause-count : goal.update-lost-requires-clause-count
 update-lost-requires-clause-count g c = subst (λ (ch : Change). role_count ch.shared ≤ 16) (sym c.taking_over-change.ensures)
-    (few (g.B.Bank.given c.args.bank.now) c.args.members.now c.args.to.now c.args.slot c.requires.placed c.requires.free c.requires.still c.requires.valid c.requires.can)
+    (few (g.B.Bank.given c.args.bank.now) c.args.members.now c.args.to.now c.args.slot c.requires.stands.placed c.requires.stands.free c.requires.still c.requires.valid c.requires.can)
 
 pub update-lost-requires-clause-gives : goal.update-lost-requires-clause-gives
 update-lost-requires-clause-gives g c = λ s below. subst (λ (ch : Change). IsRoleGive (give_of ch.gives s)) (sym c.taking_over-change.ensures)
-    (role-gives (g.B.Bank.given c.args.bank.now) c.args.members.now c.args.to.now c.args.slot c.requires.placed c.requires.free c.requires.still c.requires.valid c.requires.can s)
+    (role-gives (g.B.Bank.given c.args.bank.now) c.args.members.now c.args.to.now c.args.slot c.requires.stands.placed c.requires.stands.free c.requires.still c.requires.valid c.requires.can s)
 
 pub update-lost-requires-clause-alone : goal.update-lost-requires-clause-alone
 update-lost-requires-clause-alone g c = subst (λ (ch : Change). AreGivesOfLive c.args.members.now ch) (sym c.taking_over-change.ensures)
-    (live (g.B.Bank.given c.args.bank.now) c.args.members.now c.args.to.now c.args.slot c.requires.placed c.requires.free c.requires.still c.requires.valid c.requires.can)
+    (live (g.B.Bank.given c.args.bank.now) c.args.members.now c.args.to.now c.args.slot c.requires.stands.placed c.requires.stands.free c.requires.still c.requires.valid c.requires.can)
 
 module _ (g : Over) (c : After-without g) where
   abbrev m : Members
@@ -109,12 +109,12 @@ module _ (g : Over) (c : After-without g) where
 
   less : IsLessView (planned_view m ch m.lost) n
   less = less-then (planned_view m ch m.lost) (planned_view m ch n.lost) n
-      (plans-lose m ch m.lost n.lost done.stay (one-holder b m c.args.to.now c.args.slot c.requires.placed c.requires.free c.requires.still c.requires.valid c.requires.can m.lost (λ s is. is)))
-      (new-less m n ch (live b m c.args.to.now c.args.slot c.requires.placed c.requires.free c.requires.still c.requires.valid c.requires.can) done.newest done.own done.roles done.spares)
+      (plans-lose m ch m.lost n.lost done.stay (one-holder b m c.args.to.now c.args.slot c.requires.stands.placed c.requires.stands.free c.requires.still c.requires.valid c.requires.can m.lost (λ s is. is)))
+      (new-less m n ch (live b m c.args.to.now c.args.slot c.requires.stands.placed c.requires.stands.free c.requires.still c.requires.valid c.requires.can) done.newest done.own done.roles done.spares)
 
   made-then : IsMade b m ch n
-  made-then = made b m c.args.to.now c.args.slot c.requires.placed c.requires.free c.requires.still c.requires.valid c.requires.can n done less
-      (later-fits (planned_newest ch.shared m.newest) n.newest done.newest (planned-fits b m c.args.to.now c.args.slot c.requires.placed c.requires.free c.requires.still c.requires.valid c.requires.can)) c.check_counts.ensures
+  made-then = made b m c.args.to.now c.args.slot c.requires.stands.placed c.requires.stands.free c.requires.still c.requires.valid c.requires.can n done less
+      (later-fits (planned_newest ch.shared m.newest) n.newest done.newest (planned-fits b m c.args.to.now c.args.slot c.requires.stands.placed c.requires.stands.free c.requires.still c.requires.valid c.requires.can)) c.check_counts.ensures
 
   -- a spare is looked at, so it isn't the backup, nor is a slot that holds a role
   module _ (world : World) (told : Ledger) (steady : IsSteady (OpensFit world) world.scope b told m (disk b.start (g.B.Bank.tape c.args.bank.now))) where
@@ -133,17 +133,17 @@ returns-clause-taken g c = done g c
 
 pub returns-clause-newest : goal.returns-clause-newest
 returns-clause-newest g c = taken-alike c.args.members.now.newest (planned_newest (ch g c).shared c.args.members.now.newest) c.update-lost.new.members.newest c.args.to.now (says g c)
-    (planned-to (b g c) c.args.members.now c.args.to.now c.args.slot c.requires.placed c.requires.free c.requires.still c.requires.valid c.requires.can)
+    (planned-to (b g c) c.args.members.now c.args.to.now c.args.slot c.requires.stands.placed c.requires.stands.free c.requires.still c.requires.valid c.requires.can)
 
 pub returns-clause-plan : goal.returns-clause-plan
-returns-clause-plan g c = plan-is (b g c) c.args.members.now c.args.to.now c.args.slot c.requires.placed c.requires.free c.requires.still c.requires.valid c.requires.can c.args.members.now.lost
+returns-clause-plan g c = plan-is (b g c) c.args.members.now c.args.to.now c.args.slot c.requires.stands.placed c.requires.stands.free c.requires.still c.requires.valid c.requires.can c.args.members.now.lost
 
 pub returns-clause-moved : goal.returns-clause-moved
 returns-clause-moved g c = new-moved (b g c) c.args.members.now (ch g c) c.update-lost.new.members (made-then g c)
 
 pub returns-clause-failed : goal.returns-clause-failed
 returns-clause-failed g c =
-    taken-failed (b g c) c.args.members.now c.args.to.now c.args.slot c.requires.placed c.requires.free c.requires.still c.requires.valid c.requires.can c.update-lost.new.members (done g c)
+    taken-failed (b g c) c.args.members.now c.args.to.now c.args.slot c.requires.stands.placed c.requires.stands.free c.requires.still c.requires.valid c.requires.can c.update-lost.new.members (done g c)
     c.update-lost.result c.holders_then-held.result c.without.result (g.B.Bank.faults_of c.args.bank.now) (g.B.Bank.faults_of c.update-lost.new.bank)
     (subst (λ (ch : Change). AreLosses (live_set c.args.members.now ch) (with_added c.args.members.now ch.added).lost c.update-lost.new.members.lost (g.B.Bank.faults_of c.args.bank.now) (g.B.Bank.faults_of c.update-lost.new.bank))
     c.taking_over-change.ensures c.update-lost.ensures.losses)
@@ -157,7 +157,7 @@ returns-clause-failed g c =
 
 pub returns-clause-spares : goal.returns-clause-spares
 returns-clause-spares g c =
-    spares-were (b g c) c.args.members.now c.args.to.now c.args.slot c.requires.placed c.requires.free c.requires.still c.requires.valid c.requires.can c.update-lost.new.members (done g c)
+    spares-were (b g c) c.args.members.now c.args.to.now c.args.slot c.requires.stands.placed c.requires.stands.free c.requires.still c.requires.valid c.requires.can c.update-lost.new.members (done g c)
     c.update-lost.result c.holders_then-held.result c.without.result (g.B.Bank.faults_of c.args.bank.now) (g.B.Bank.faults_of c.update-lost.new.bank)
     (subst (λ (ch : Change). AreLosses (live_set c.args.members.now ch) (with_added c.args.members.now ch.added).lost c.update-lost.new.members.lost (g.B.Bank.faults_of c.args.bank.now) (g.B.Bank.faults_of c.update-lost.new.bank))
     c.taking_over-change.ensures c.update-lost.ensures.losses)
@@ -176,18 +176,22 @@ pub returns-clause-named : goal.returns-clause-named
 returns-clause-named g c = λ some.
     let m = c.args.members.now in
     let n = c.update-lost.new.members in
-    let was = live-before m n (ch g c) (live (b g c) m c.args.to.now c.args.slot c.requires.placed c.requires.free c.requires.still c.requires.valid c.requires.can) (done g c).roles (done g c).spares some.0 some.1 in
-    names-all (b g c) m (ch g c) n (made-then g c) (one-holder (b g c) m c.args.to.now c.args.slot c.requires.placed c.requires.free c.requires.still c.requires.valid c.requires.can n.lost (done g c).stay)
+    let was = live-before m n (ch g c) (live (b g c) m c.args.to.now c.args.slot c.requires.stands.placed c.requires.stands.free c.requires.still c.requires.valid c.requires.can) (done g c).roles (done g c).spares some.0 some.1 in
+    names-all (b g c) m (ch g c) n (made-then g c) (one-holder (b g c) m c.args.to.now c.args.slot c.requires.stands.placed c.requires.stands.free c.requires.still c.requires.valid c.requires.can n.lost (done g c).stay)
     c.check_entries.ensures ((done g c).named (some.0, was.0, some.2))
 
 pub returns-clause-others : goal.returns-clause-others
 returns-clause-others g c = λ tell. others-updated (b g c) (done g c).update tell
 
-pub returns-clause-grows : goal.returns-clause-grows
-returns-clause-grows g c = grows-marks (done g c).update.marks
+pub returns-clause-bank : goal.returns-clause-bank
+returns-clause-bank g c = record {
+  same = c.update-lost.ensures.given;
+  grows = grows-marks (done g c).update.marks;
+  counts = c.update-lost.ensures.counts;
+}
 
 pub returns-clause-rise : goal.returns-clause-rise
-returns-clause-rise g c = risen-changed (done g c) refl (live (b g c) c.args.members.now c.args.to.now c.args.slot c.requires.placed c.requires.free c.requires.still c.requires.valid c.requires.can)
+returns-clause-rise g c = risen-changed (done g c) refl (live (b g c) c.args.members.now c.args.to.now c.args.slot c.requires.stands.placed c.requires.stands.free c.requires.still c.requires.valid c.requires.can)
 
 pub returns-clause-safe : goal.returns-clause-safe
 returns-clause-safe g c = λ tell world told more room tells gone gone' carried safe.
@@ -196,13 +200,13 @@ returns-clause-safe g c = λ tell world told more room tells gone gone' carried 
     let after = g.B.Bank.tape c.update-lost.new.bank in
     let so = told-changed tell (done g c) in
     safe-change (OpensFit world) world.scope (b g c) told more (ch g c) m c.update-lost.new.members before after so refl
-    (live (b g c) m c.args.to.now c.args.slot c.requires.placed c.requires.free c.requires.still c.requires.valid c.requires.can) room (λ steady. (
+    (live (b g c) m c.args.to.now c.args.slot c.requires.stands.placed c.requires.stands.free c.requires.still c.requires.valid c.requires.can) room (λ steady. (
     let was = steady-right (OpensFit world) world.scope (b g c) told m (disk (b g c).start before) steady gone in
     record {
-      fit = fit-update (b g c) m c.args.to.now c.args.slot c.requires.placed c.requires.free c.requires.still c.requires.valid c.requires.can world.scope steady.former (disk (b g c).start before) steady.since;
+      fit = fit-update (b g c) m c.args.to.now c.args.slot c.requires.stands.placed c.requires.stands.free c.requires.still c.requires.valid c.requires.can world.scope steady.former (disk (b g c).start before) steady.since;
       right = takeovers (OpensFit world) world.scope (b g c) told more m (planned_view m (ch g c) m.lost) (disk (b g c).start before)
-          (plan-is (b g c) m c.args.to.now c.args.slot c.requires.placed c.requires.free c.requires.still c.requires.valid c.requires.can m.lost)
-          (plan-placed (b g c) m c.args.to.now c.args.slot c.requires.placed c.requires.free c.requires.still c.requires.valid c.requires.can world.scope c.check_counts.ensures (aside g c world told steady was.placed) was.placed)
+          (plan-is (b g c) m c.args.to.now c.args.slot c.requires.stands.placed c.requires.stands.free c.requires.still c.requires.valid c.requires.can m.lost)
+          (plan-placed (b g c) m c.args.to.now c.args.slot c.requires.stands.placed c.requires.stands.free c.requires.still c.requires.valid c.requires.can world.scope c.check_counts.ensures (aside g c world told steady was.placed) was.placed)
           tells was;
       gone = told-plan more (b g c) (ch g c) m c.update-lost.new.members before after so gone';
       carried = carried;

@@ -14,29 +14,29 @@ use Rattle.reshape_window_backup.proofs.reading.read_next.Goals as goal
 
 pub overflow_cast-count : goal.overflow_cast-count
 overflow_cast-count g c =
-    let few = few-roles c.args.members.now.newest c.requires.placed.fit.valid in
-    let roles = c.requires.placed.roles in
+    let few = few-roles c.args.members.now.newest c.requires.stands.placed.fit.valid in
+    let roles = c.requires.stands.placed.roles in
     let long = c.len-count.ensures in
     omega (arith, few, roles, long)
 
 pub unassigned_roles-before-requires-clause-few : goal.unassigned_roles-before-requires-clause-few
 unassigned_roles-before-requires-clause-few g c =
-    let few = few-roles c.args.members.now.newest c.requires.placed.fit.valid in
-    let roles = c.requires.placed.roles in
+    let few = few-roles c.args.members.now.newest c.requires.stands.placed.fit.valid in
+    let roles = c.requires.stands.placed.roles in
     let long = c.len-count.ensures in
     omega (arith, few, roles, long)
 
 pub read_list-read-requires-clause-within : goal.read_list-read-requires-clause-within
 read_list-read-requires-clause-within g c =
-    let order = span-order c.args.members.now.newest c.requires.placed.fit c.args.span.now c.requires.next in
-    let inside = window-inside c.args.members.now.newest c.requires.placed.fit c.args.span.now c.requires.next in
+    let order = span-order c.args.members.now.newest c.requires.stands.placed.fit c.args.span.now c.requires.next in
+    let inside = window-inside c.args.members.now.newest c.requires.stands.placed.fit c.args.span.now c.requires.next in
     let end = window-end c.args.span.now c.args.window.now order c.requires.room in
     omega (arith, end, inside)
 
 pub newly_unassigned-requires-clause-few : goal.newly_unassigned-requires-clause-few
 newly_unassigned-requires-clause-few g c =
-    let few = few-roles c.args.members.now.newest c.requires.placed.fit.valid in
-    let roles = c.requires.placed.roles in
+    let few = few-roles c.args.members.now.newest c.requires.stands.placed.fit.valid in
+    let roles = c.requires.stands.placed.roles in
     let long = c.len-count.ensures in
     omega (arith, few, roles, long)
 
@@ -45,15 +45,15 @@ newly_unassigned-requires-clause-few g c =
 pub returns-clause-since : goal.returns-clause-since
 returns-clause-since g c =
     lost-since (g.B.Bank.given c.args.bank.now) c.args.members.now c.read_list-read.new.members c.len-count.result c.unassigned_roles-before.result c.newly_unassigned.result c.read_list-read.result.spares
-    (g.B.Bank.faults_of c.args.bank.now) (g.B.Bank.faults_of c.read_list-read.new.bank) c.requires.placed c.read_list-read.ensures.moved c.read_list-read.ensures.failed
-    (c.len-count.ensures ∙ c.requires.placed.roles) c.unassigned_roles-before.ensures c.newly_unassigned.ensures
+    (g.B.Bank.faults_of c.args.bank.now) (g.B.Bank.faults_of c.read_list-read.new.bank) c.requires.stands.placed c.read_list-read.ensures.keeps.moved c.read_list-read.ensures.keeps.failed
+    (c.len-count.ensures ∙ c.requires.stands.placed.roles) c.unassigned_roles-before.ensures c.newly_unassigned.ensures
 
 pub returns-clause-refused : goal.returns-clause-refused
 returns-clause-refused g c =
     let old = c.args.members.now in
     let new = c.read_list-read.new.members in
-    let moved = c.read_list-read.ensures.moved in
-    let order = span-order old.newest c.requires.placed.fit c.args.span.now c.requires.next in
+    let moved = c.read_list-read.ensures.keeps.moved in
+    let order = span-order old.newest c.requires.stands.placed.fit c.args.span.now c.requires.next in
     let end = window-end c.args.span.now c.args.window.now order c.requires.room in
     let long = list-alike old.newest new.newest moved.reshape moved.shape moved.size in
     let all = c.requires.relied in
@@ -66,7 +66,13 @@ returns-clause-has g c = λ none told list stands filled.
     let content = present (g.B.Bank.given c.args.bank.now) (g.B.Bank.tape c.args.bank.now) in
     let to = c.args.span.now.lo + length c.args.window.now / 512 in
     let room = c.requires.room in
-    has-window old c.args.span.now c.read_list-read.new.into content list (length c.args.window.now / 512) c.args.relied c.requires.placed.fit c.requires.next (omega (arith, room))
+    has-window old c.args.span.now c.read_list-read.new.into content list (length c.args.window.now / 512) c.args.relied c.requires.stands.placed.fit c.requires.next (omega (arith, room))
     (c.read_list-read.ensures.holds (none-read c.read_list-read.new.members c.read_list-read.result.refusal c.refusal_behind.result c.refusal_behind.ensures none) told None list
     (stands-in old c.args.span.now c.read_list-read.new.into content list (length c.args.window.now / 512) c.args.relied (IsShapeOf old.newest c.args.span.now.lo to) stands)
     (rows-in old c.args.span.now c.read_list-read.new.into content list (length c.args.window.now / 512) c.args.relied (IsShapeOf old.newest c.args.span.now.lo to) (AreWhole c.read_list-read.new.members) filled))
+
+pub returns-clause-bank : goal.returns-clause-bank
+returns-clause-bank g c = c.read_list-read.ensures.keeps.bank
+
+pub read_list-read-requires-clause-stands : goal.read_list-read-requires-clause-stands
+read_list-read-requires-clause-stands g c = c.requires.stands

@@ -6,6 +6,7 @@ use Rattle.reshape_progress.proofs.array_members_SafeStretch.{safe-none}
 use Rattle.reshape_progress.specs.Course.{IsStored}
 use Rattle.reshape_window_backup.specs.Entering.{window_behind}
 use Rattle.reshape_window_backup.proofs.StoredLaws.{section-stored}
+use Rattle.reshape_progress.proofs.sb_safe_updates_FrameLaws.{goes-none}
 use Rattle.reshape_window_backup.proofs.windows.store_next.Goals as goal
 
 pub returns-then-not-sectioned-clause-safe : goal.returns-then-not-sectioned-clause-safe
@@ -25,5 +26,12 @@ returns-clause-stored g c = λ told scope m fit next its was.
       unsure = c.store_window.ensures.unsure;
     }) told scope m fit next its was)
 
-pub returns-clause-grows : goal.returns-clause-grows
-returns-clause-grows g c = grows-marks c.store_window.ensures.each_mark
+pub returns-clause-bank : goal.returns-clause-bank
+returns-clause-bank g c = record {
+  same = c.store_window.ensures.given;
+  grows = grows-marks c.store_window.ensures.each_mark;
+  counts = c.store_window.ensures.cause.never_falls;
+}
+
+pub returns-then-not-sectioned-clause-bank : goal.returns-then-not-sectioned-clause-bank
+returns-then-not-sectioned-clause-bank g c = goes-none c.args.bank.now

@@ -46,3 +46,15 @@ returns-in-Some-clause-holds g c = λ ok told list stands buffered fills i lt.
     c.read_around_open.ensures.holds ok told list (subst (λ (h : Option Span). ListStandsIn (IsShapeBeside h m.newest c.args.first to) h m now list) c.in-Some.is stands)
     (subst (λ (h : Option Span). IfSome h (λ span. HasWindow span c.args.buffer.now list)) c.in-Some.is buffered)
     (elim fills [ inl all ↦ inl all | inr rows ↦ inr (subst (λ (h : Option Span). RowsStandIn (IsShapeBeside h m.newest c.args.first to) h c.args.relied m now list) c.in-Some.is rows) ]) i lt
+
+pub returns-in-None-clause-keeps : goal.returns-in-None-clause-keeps
+returns-in-None-clause-keeps g c = c.read_list.ensures.keeps
+
+pub returns-in-Some-clause-keeps : goal.returns-in-Some-clause-keeps
+returns-in-Some-clause-keeps g c = c.read_around_open.ensures.keeps
+
+pub read_list-requires-clause-stands : goal.read_list-requires-clause-stands
+read_list-requires-clause-stands g c = c.requires.stands
+
+pub read_around_open-requires-clause-stands : goal.read_around_open-requires-clause-stands
+read_around_open-requires-clause-stands g c = c.requires.stands

@@ -1,5 +1,4 @@
 use Rattle.std.proofs.Common.{◌≡◌, ◌-◌, ◌<◌, ◌≤◌, ℕ}
-use Rattle.reshape_window_rows.specs.bank_Given.{NeverFalls}
 use Rattle.reshape_window_rows.specs.bank_Tape.{disk}
 use Rattle.reshape_window_rows.specs.raid_types_Sectors.{Sector}
 use Rattle.reshape_window_rows.specs.sb_specs_Reading.{is_clean}
@@ -8,14 +7,13 @@ use Rattle.reshape_window_rows.specs.stripe_list_Full.{RowStands}
 use Rattle.reshape_window_rows.specs.history_World.{World}
 use Rattle.reshape_window_rows.specs.crash_views_Views.{Ledger}
 use Rattle.reshape_window_rows.specs.crash_views_Windows.{IsCopyable}
-use Rattle.reshape_window_rows.specs.crash_safety_laws_Safety.{HasLiveSlot, HasRoomLeft, IsRisen}
+use Rattle.reshape_window_rows.specs.crash_safety_laws_Safety.{HasLiveSlot, HasRoomLeft}
 use Rattle.reshape_window_rows.specs.sb_safe_updates_Named.{AreNamedMissing}
 use Rattle.reshape_window_rows.specs.crash_safety_laws_Steady.{IsSafeOver, KeepsSafe, AreGoneTold, IsUncleanTold}
-use Rattle.reshape_window_rows.specs.array_members_Moving.{Grows, IsMoved}
-use Rattle.reshape_window_rows.specs.array_members_Lacking.{HaveFailedSince, AreOtherRowsKept}
+use Rattle.reshape_window_rows.specs.array_members_Lacking.{AreOtherRowsKept}
 use Rattle.reshape_window_rows.specs.Copies.{tail_of, IsCopied}
-use Rattle.reshape_window_rows.specs.sb_safe_updates_Unused.{IsUnusedKept}
 use Rattle.reshape_window_steps.specs.Copying.{IsOfStripeFrom, AreHeadersKept}
+use Rattle.reshape_window_rows.specs.sb_safe_updates_Frame.{Keeps}
 use Rattle.reshape_window_steps.proofs.copying.copy.Given as goal
 
 abbrev pub decreases-loop-done : goal.decreases-loop-done
@@ -23,16 +21,13 @@ decreases-loop-done g l = l.chunk - l.done
 
 abbrev pub invariant-loop-done : goal.invariant-loop-done
 invariant-loop-done g l = record {
-  moved : IsMoved (g.B.Bank.given l.fn.bank) l.fn.members l.members;
-  failed : HaveFailedSince l.fn.members l.members l.spares (g.B.Bank.faults_of l.fn.bank) (g.B.Bank.faults_of l.bank);
-  grows : Grows g.B.Bank.tells (g.B.Bank.tape l.fn.bank) (g.B.Bank.tape l.bank);
+  keeps : Keeps g.B.Bank.tells g.B.Bank.given g.B.Bank.tape g.B.Bank.faults_of l.fn.bank l.bank l.fn.members l.members l.spares;
   clean : is_clean l.members.newest ≡ is_clean l.fn.members.newest;
   within : l.done ≤ l.chunk;
   named : 0 < l.done → HasLiveSlot l.members → AreNamedMissing l.members;
   stands : g.B.Bank.tells → (list : ℕ → Sector) → IsCopied l.span l.buffer (tail_of l.fn.members.newest) list → (row : ℕ) → IsOfStripeFrom l.shape l.stripe 0 l.done row
       → RowStands (reading_of l.members) (present (g.B.Bank.given l.fn.bank) (g.B.Bank.tape l.bank)) l.shape list row;
   others : g.B.Bank.tells → AreOtherRowsKept (IsOfStripeFrom l.shape l.stripe 0 l.shape.chunk) (reading_of l.members) (present (g.B.Bank.given l.fn.bank) (g.B.Bank.tape l.fn.bank)) (present (g.B.Bank.given l.fn.bank) (g.B.Bank.tape l.bank));
-  rise : IsRisen g.B.Bank.tells l.fn.members l.members (g.B.Bank.tape l.fn.bank) (g.B.Bank.tape l.bank);
   safe : g.B.Bank.tells → (world : World) → (told : Ledger) → HasRoomLeft l.fn.members (g.B.Bank.tape l.fn.bank) (g.B.Bank.tape l.bank)
       → AreGoneTold told l.members → IsUncleanTold told l.fn.members → IsCopyable world.scope l.fn.members l.span (disk (g.B.Bank.given l.fn.bank).start (g.B.Bank.tape l.fn.bank))
       → IsSafeOver world (g.B.Bank.given l.fn.bank) told l.fn.members (g.B.Bank.tape l.fn.bank)
@@ -40,7 +35,4 @@ invariant-loop-done g l = record {
   copyable : g.B.Bank.tells → (world : World) → IsCopyable world.scope l.fn.members l.span (disk (g.B.Bank.given l.fn.bank).start (g.B.Bank.tape l.fn.bank))
       → IsCopyable world.scope l.members l.span (disk (g.B.Bank.given l.fn.bank).start (g.B.Bank.tape l.bank));
   headers : g.B.Bank.tells → AreHeadersKept (disk (g.B.Bank.given l.fn.bank).start (g.B.Bank.tape l.fn.bank)) (disk (g.B.Bank.given l.fn.bank).start (g.B.Bank.tape l.bank));
-  unused : g.B.Bank.tells → IsUnusedKept l.fn.members (disk (g.B.Bank.given l.fn.bank).start (g.B.Bank.tape l.fn.bank)) (disk (g.B.Bank.given l.fn.bank).start (g.B.Bank.tape l.bank));
-  given : g.B.Bank.given l.bank ≡ g.B.Bank.given l.fn.bank;
-  counts : NeverFalls (g.B.Bank.faults_of l.fn.bank) (g.B.Bank.faults_of l.bank);
 }

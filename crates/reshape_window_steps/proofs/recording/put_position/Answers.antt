@@ -40,13 +40,13 @@ off-on : (b : Bool) → b ≡ false → b ≡ true → ⊥
 off-on b off on = absurd (cc)
 
 pub holders-held-requires-clause-small : goal.holders-held-requires-clause-small
-holders-held-requires-clause-small g c role slot held = (c.requires.placed.holders role slot held).small
+holders-held-requires-clause-small g c role slot held = (c.requires.stands.placed.holders role slot held).small
 
 pub holders-held-requires-clause-few : goal.holders-held-requires-clause-few
-holders-held-requires-clause-few g c = let most = few (g.B.Bank.given c.args.bank.now) c.args.members.now c.requires.placed in omega (arith, most)
+holders-held-requires-clause-few g c = let most = few (g.B.Bank.given c.args.bank.now) c.args.members.now c.requires.stands.placed in omega (arith, most)
 
 pub record_position-lost-requires-clause-few : goal.record_position-lost-requires-clause-few
-record_position-lost-requires-clause-few g c = few (g.B.Bank.given c.args.bank.now) c.args.members.now c.requires.placed
+record_position-lost-requires-clause-few g c = few (g.B.Bank.given c.args.bank.now) c.args.members.now c.requires.stands.placed
 
 module _ (g : Over) (c : After-without g) where
   abbrev given : Given
@@ -61,10 +61,10 @@ module _ (g : Over) (c : After-without g) where
   less : AreLess new.lost (moved_past c.args.span.now old) new
   less =
       let did = c.record_position-lost.ensures in
-      past-less given c.args.span.now old new c.requires.placed did.newest (is_left (live_set old (recording c.args.span.now old)) new.lost) did.recorded.own did.recorded.roles
+      past-less given c.args.span.now old new c.requires.stands.placed did.newest (is_left (live_set old (recording c.args.span.now old)) new.lost) did.recorded.own did.recorded.roles
 
   was : IsPlaced given (moved_past c.args.span.now old)
-  was = past-placed given old c.args.span.now c.requires.placed c.requires.next
+  was = past-placed given old c.args.span.now c.requires.stands.placed c.requires.next
 
 pub returns-clause-moved : goal.returns-clause-moved
 returns-clause-moved g c =
@@ -83,7 +83,7 @@ returns-clause-failed g c =
     let f1 = g.B.Bank.faults_of c.record_position-lost.new.bank in
     since-past (old g c) (new g c) c.args.span.now c.without.result f0 f1
     (since-failed (moved_past c.args.span.now (old g c)) (new g c) c.without.result f0 f1
-    (failed-marked (moved_past c.args.span.now (old g c)) (new g c) (live_set (old g c) (recording c.args.span.now (old g c))) c.without.result f0 f1 c.requires.unlost (less g c) did.losses
+    (failed-marked (moved_past c.args.span.now (old g c)) (new g c) (live_set (old g c) (recording c.args.span.now (old g c))) c.without.result f0 f1 c.requires.stands.unlost (less g c) did.losses
     (λ slot has.
     let below : slot < 32 = small slot has in
     let parts = both (has_slot c.record_position-lost.result slot) (not (has_slot c.holders-held.result slot)) (sym (c.without.ensures slot below) ∙ has) in
@@ -97,7 +97,7 @@ returns-clause-failed g c =
     (did.losses.live slot lost.0 (flip (has_slot (old g c).lost slot) lost.1)) (flip (has_slot c.holders-held.result slot) parts.1))
     (λ slot has. (spare-left (old g c) false (new g c).lost (new g c).spares did.recorded.spares slot has).0)
     (λ slot has.
-    let free = c.requires.free slot has in
+    let free = c.requires.stands.free slot has in
     elim (free-told (old g c) c.holders-held.result (new g c).lost c.record_position-lost.result c.without.result slot free c.holders-held.ensures (did.result slot) (c.without.ensures slot free.room.small)) [
       | inl kept ↦ inl (spare-stays (old g c) false (new g c).lost (new g c).spares did.recorded.spares slot free.room.small kept has)
       | inr told ↦ inr told
@@ -109,8 +109,12 @@ returns-clause-failed g c =
       | inr above ↦ absurd (off-on (has_slot c.without.result slot) (none_above c.without.result slot (omega arith) above) has)
     ]
 
-pub returns-clause-grows : goal.returns-clause-grows
-returns-clause-grows g c = grows-marks c.record_position-lost.ensures.recorded.update.marks
+pub returns-clause-bank : goal.returns-clause-bank
+returns-clause-bank g c = record {
+  same = c.record_position-lost.ensures.given;
+  grows = grows-marks c.record_position-lost.ensures.recorded.update.marks;
+  counts = c.record_position-lost.ensures.counts;
+}
 
 pub returns-clause-others : goal.returns-clause-others
 returns-clause-others g c = λ told. others-updated (g.B.Bank.given c.args.bank.now) c.record_position-lost.ensures.recorded.update told
@@ -125,6 +129,7 @@ returns-clause-fewer g c = λ told s k v other may.
     ((c.record_position-lost.ensures.recorded.update.end told).touched.elsewhere s k other) may
 
 -- a slot that isn't live in the update isn't written
+
 pub returns-clause-unused : goal.returns-clause-unused
 returns-clause-unused g c = λ told s k v unused may.
     subst (λ (l : List Sector). IsIn l v) ((c.record_position-lost.ensures.recorded.update.end told).touched.others s k unused) may
@@ -132,7 +137,7 @@ returns-clause-unused g c = λ told s k v unused may.
 pub returns-clause-clean : goal.returns-clause-clean
 returns-clause-clean g c =
     let did = c.record_position-lost.ensures in
-    past-clean (given g c) c.args.span.now (old g c) (new g c) c.requires.placed did.newest (is_left (live_set (old g c) (recording c.args.span.now (old g c))) (new g c).lost) did.recorded.own did.recorded.roles
+    past-clean (given g c) c.args.span.now (old g c) (new g c) c.requires.stands.placed did.newest (is_left (live_set (old g c) (recording c.args.span.now (old g c))) (new g c).lost) did.recorded.own did.recorded.roles
 
 pub returns-clause-safe : goal.returns-clause-safe
 returns-clause-safe g c = λ tell world told room gone right safe.

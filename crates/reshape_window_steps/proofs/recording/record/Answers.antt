@@ -1,4 +1,4 @@
-use Rattle.std.proofs.Common.{◌≡◌, inl, Option, Some, None, refl, sym, ◌∙◌, subst, ◌≤◌, le_trans}
+use Rattle.std.proofs.Common.{◌≡◌, inl, Option, Some, None, refl, sym, ◌∙◌, subst}
 use mathlib.Core.List.{not-mem-nil}
 use Rattle.std.specs.Prelude.{MatchOption, is_some, true}
 use Rattle.reshape_window_rows.specs.raid_types_the_Refusal.{Refusal}
@@ -14,10 +14,9 @@ use Rattle.reshape_window_rows.specs.crash_safety_laws_Steady.{IsSteady}
 use Rattle.reshape_window_rows.proofs.crash_safety_laws_Risen.{risen-then, room-first, room-then}
 use Rattle.reshape_window_rows.specs.array_members_Lacking.{AreTooMany}
 use Rattle.reshape_window_rows.specs.array_members_Moving.{IsMoved}
-use Rattle.reshape_window_rows.specs.array_members_Rebuilding.{AreSparesFree}
 use Rattle.reshape_window_rows.proofs.array_members_LackingLaws.{since-then, in-either, holders-at}
 use Rattle.reshape_window_rows.proofs.array_members_LackingLists.{none-of}
-use Rattle.reshape_window_rows.proofs.array_members_MovedLaws.{moved-then, grows-then}
+use Rattle.reshape_window_rows.proofs.array_members_MovedLaws.{moved-then}
 use Rattle.reshape_window_rows.proofs.array_members_SafeStretch.{safe-then, over-at, keeps-from, grows-longer}
 use Rattle.reshape_window_rows.specs.sb_safe_updates_Unused.{IsUnusedKept}
 use Rattle.reshape_window_rows.proofs.sb_safe_updates_Unused.{rest-unused, unused-then}
@@ -26,17 +25,15 @@ use Rattle.reshape_window_steps.proofs.CopyLaws.{refused-of}
 use Rattle.reshape_window_steps.proofs.PastLaws.{past-moved, past-plain, past-headers, plain-moved, headers-moved, past-right, next-moved, gone-past}
 use Rattle.reshape_window_steps.proofs.recording.record.Given.{Over}
 use Rattle.reshape_window_steps.proofs.recording.record.Goals.{After-move_position-moved}
-use Rattle.reshape_window_rows.specs.array_members_Placed.{IsPlaced}
+use Rattle.reshape_window_rows.proofs.sb_safe_updates_FrameLaws.{goes-then, stands-on}
 use Rattle.reshape_window_steps.proofs.recording.record.Goals as goal
 
-pub move_position-moved-requires-clause-free : goal.move_position-moved-requires-clause-free
-move_position-moved-requires-clause-free g c =
-    let did = c.flush_naming-flushed.ensures in
-    subst (λ (b : Given). AreSparesFree b c.flush_naming-flushed.new.members) (sym did.given) (did.moved.free c.requires.free)
+pub move_position-moved-requires-clause-stands : goal.move_position-moved-requires-clause-stands
+move_position-moved-requires-clause-stands g c = stands-on c.flush_naming-flushed.ensures.keeps c.requires.stands
 
 pub move_position-moved-requires-clause-next : goal.move_position-moved-requires-clause-next
 move_position-moved-requires-clause-next g c =
-    next-moved (g.B.Bank.given c.args.bank.now) c.args.members.now c.flush_naming-flushed.new.members c.args.span.now c.flush_naming-flushed.ensures.moved c.requires.next
+    next-moved (g.B.Bank.given c.args.bank.now) c.args.members.now c.flush_naming-flushed.new.members c.args.span.now c.flush_naming-flushed.ensures.keeps.moved c.requires.next
 
 -- ---- where too many are missing
 
@@ -49,7 +46,7 @@ refused-moved P None is moved = absurd (cc)
 refused-moved P (Some refusal) is moved = moved
 
 pub returns-then-is_some-clause-moved : goal.returns-then-is_some-clause-moved
-returns-then-is_some-clause-moved g c = refused-moved _ c.too_many-refusal.result (sym c.is_some.ensures ∙ c.if-is_some.true) c.flush_naming-flushed.ensures.moved
+returns-then-is_some-clause-moved g c = refused-moved _ c.too_many-refusal.result (sym c.is_some.ensures ∙ c.if-is_some.true) c.flush_naming-flushed.ensures.keeps.moved
 
 pub returns-then-is_some-clause-refused : goal.returns-then-is_some-clause-refused
 returns-then-is_some-clause-refused g c = refused-of c.flush_naming-flushed.new.members c.too_many-refusal.result c.too_many-refusal.ensures
@@ -78,8 +75,8 @@ returns-clause-moved g c =
     let n = c.flush_naming-flushed.new.members in
     let new = c.move_position-moved.new.members in
     let did = c.flush_naming-flushed.ensures in
-    moved-then given (moved_past c.args.span.now m) (moved_past c.args.span.now n) new (past-moved given m n c.args.span.now did.moved c.requires.next)
-    (subst (λ (b : Given). IsMoved b (moved_past c.args.span.now n) new) did.given c.move_position-moved.ensures.moved)
+    moved-then given (moved_past c.args.span.now m) (moved_past c.args.span.now n) new (past-moved given m n c.args.span.now did.keeps.moved c.requires.next)
+    (subst (λ (b : Given). IsMoved b (moved_past c.args.span.now n) new) did.keeps.bank.same c.move_position-moved.ensures.moved)
 
 pub returns-clause-recorded : goal.returns-clause-recorded
 returns-clause-recorded g c = λ none.
@@ -89,12 +86,12 @@ returns-clause-recorded g c = λ none.
     record {
       mid = n;
       tape = g.B.Bank.tape c.flush_naming-flushed.new.bank;
-      lost = did.moved;
+      lost = did.keeps.moved;
       flushed = did.flushed;
       named = did.missing;
       few = subst (λ (o : Option Refusal). MatchOption o (DoWithout n) (AreTooMany n)) (none-of c.too_many-refusal.result (sym c.is_some.ensures ∙ c.if-is_some.false)) c.too_many-refusal.ensures;
-      moved = subst (λ (b : Given). IsMoved b (moved_past c.args.span.now n) c.move_position-moved.new.members) did.given c.move_position-moved.ensures.moved;
-      grows = (did.grows, c.move_position-moved.ensures.grows);
+      moved = subst (λ (b : Given). IsMoved b (moved_past c.args.span.now n) c.move_position-moved.new.members) did.keeps.bank.same c.move_position-moved.ensures.moved;
+      grows = (did.keeps.bank.grows, c.move_position-moved.ensures.bank.grows);
     }
 
 pub returns-then-is_some-clause-recorded : goal.returns-then-is_some-clause-recorded
@@ -105,16 +102,16 @@ returns-clause-failed g c =
     let s = c.flush_naming-flushed.result in
     let t = c.move_position-moved.result in
     since-then c.args.members.now c.flush_naming-flushed.new.members c.move_position-moved.new.members s t _ (g.B.Bank.faults_of c.args.bank.now) (g.B.Bank.faults_of c.flush_naming-flushed.new.bank)
-    (g.B.Bank.faults_of c.move_position-moved.new.bank) c.flush_naming-flushed.ensures.counts c.move_position-moved.ensures.counts c.flush_naming-flushed.ensures.failed c.move_position-moved.ensures.failed (in-either s t)
+    (g.B.Bank.faults_of c.move_position-moved.new.bank) c.flush_naming-flushed.ensures.keeps.bank.counts c.move_position-moved.ensures.bank.counts c.flush_naming-flushed.ensures.keeps.failed c.move_position-moved.ensures.failed (in-either s t)
 
-pub returns-clause-grows : goal.returns-clause-grows
-returns-clause-grows g c = grows-then c.flush_naming-flushed.ensures.grows c.move_position-moved.ensures.grows
+pub returns-clause-bank : goal.returns-clause-bank
+returns-clause-bank g c = goes-then c.flush_naming-flushed.ensures.keeps.bank c.move_position-moved.ensures.bank
 
 pub returns-clause-others : goal.returns-clause-others
 returns-clause-others g c = λ told s k other.
     let tape1 = g.B.Bank.tape c.flush_naming-flushed.new.bank in
     let tape2 = g.B.Bank.tape c.move_position-moved.new.bank in
-    subst (λ (b : Given). AreOthersPresent (present b tape1) (present b tape2)) c.flush_naming-flushed.ensures.given (c.move_position-moved.ensures.others told) s k other
+    subst (λ (b : Given). AreOthersPresent (present b tape1) (present b tape2)) c.flush_naming-flushed.ensures.keeps.bank.same (c.move_position-moved.ensures.others told) s k other
     ∙ c.flush_naming-flushed.ensures.others told s k other
 
 pub returns-clause-flushed : goal.returns-clause-flushed
@@ -122,8 +119,8 @@ returns-clause-flushed g c = λ told.
     let given = g.B.Bank.given c.args.bank.now in
     let given1 = g.B.Bank.given c.flush_naming-flushed.new.bank in
     let did = c.flush_naming-flushed.ensures in
-    holders-at (reading_of c.move_position-moved.new.members) given1 given (g.B.Bank.tape c.move_position-moved.new.bank) (sym did.given)
-    (c.move_position-moved.ensures.flushed told (holders-at (reading_of c.flush_naming-flushed.new.members) given given1 (g.B.Bank.tape c.flush_naming-flushed.new.bank) did.given (did.flushed told)))
+    holders-at (reading_of c.move_position-moved.new.members) given1 given (g.B.Bank.tape c.move_position-moved.new.bank) (sym did.keeps.bank.same)
+    (c.move_position-moved.ensures.flushed told (holders-at (reading_of c.flush_naming-flushed.new.members) given given1 (g.B.Bank.tape c.flush_naming-flushed.new.bank) did.keeps.bank.same (did.flushed told)))
 
 fewer-then : (d e f : Disk) → AreOthersFewer d e → AreOthersFewer e f → AreOthersFewer d f
 fewer-then d e f one two s k v other may = one s k v other (two s k v other may)
@@ -146,7 +143,7 @@ module _ (g : Over) (c : After-move_position-moved g) (told : g.B.Bank.tells) wh
 
   fewer : AreOthersFewer first last
   fewer = fewer-then first mid last settled
-      (subst (λ (b : Given). AreOthersFewer (disk b.start (g.B.Bank.tape c.flush_naming-flushed.new.bank)) (disk b.start (g.B.Bank.tape c.move_position-moved.new.bank))) c.flush_naming-flushed.ensures.given
+      (subst (λ (b : Given). AreOthersFewer (disk b.start (g.B.Bank.tape c.flush_naming-flushed.new.bank)) (disk b.start (g.B.Bank.tape c.move_position-moved.new.bank))) c.flush_naming-flushed.ensures.keeps.bank.same
       (c.move_position-moved.ensures.fewer told))
 
 pub returns-clause-fewer : goal.returns-clause-fewer
@@ -159,8 +156,8 @@ returns-clause-unused g c = λ told.
     let tape2 = g.B.Bank.tape c.move_position-moved.new.bank in
     let did = c.flush_naming-flushed.ensures in
     let moved : IsUnusedKept n (mid g c told) (last g c told) =
-    subst (λ (b : Given). IsUnusedKept n (disk b.start tape1) (disk b.start tape2)) did.given (c.move_position-moved.ensures.unused told) in
-    unused-then (given g c told) c.args.members.now n (first g c told) (mid g c told) (last g c told) did.moved
+    subst (λ (b : Given). IsUnusedKept n (disk b.start tape1) (disk b.start tape2)) did.keeps.bank.same (c.move_position-moved.ensures.unused told) in
+    unused-then (given g c told) c.args.members.now n (first g c told) (mid g c told) (last g c told) did.keeps.moved
     (rest-unused c.args.members.now (first g c told) (mid g c told) (did.rest told)) moved
 
 pub returns-clause-clean : goal.returns-clause-clean
@@ -177,10 +174,7 @@ returns-clause-plain g c = λ none told scope placed headers.
     )
 
 pub returns-clause-rise : goal.returns-clause-rise
-returns-clause-rise g c = risen-then c.flush_naming-flushed.ensures.rise c.move_position-moved.ensures.rise
-
-pub returns-clause-counts : goal.returns-clause-counts
-returns-clause-counts g c = λ s. le_trans (c.flush_naming-flushed.ensures.counts s) (c.move_position-moved.ensures.counts s)
+returns-clause-rise g c = risen-then c.flush_naming-flushed.ensures.keeps.rise c.move_position-moved.ensures.rise
 
 pub returns-clause-safe : goal.returns-clause-safe
 returns-clause-safe g c = λ told world ledger room gone unclean list copied safe.
@@ -194,30 +188,24 @@ returns-clause-safe g c = λ told world ledger room gone unclean list copied saf
     let tape2 = g.B.Bank.tape c.move_position-moved.new.bank in
     let did = c.flush_naming-flushed.ensures in
     let next = c.move_position-moved.ensures in
-    let moved : IsMoved (given g c told) (moved_past span n) new = subst (λ (b : Given). IsMoved b (moved_past span n) new) did.given next.moved in
-    let gone1 = gone-past (given g c told) n new span did.moved.placed (next-moved (given g c told) m n span did.moved c.requires.next) moved ledger gone in
-    let early = did.safe told world ledger (room-first m tape0 tape1 tape2 room (grows-longer next.grows told)) gone1 unclean safe in
-    let right = past-right (OpensFit world) world.scope (given g c told) ledger m n span list tape0 tape1 c.requires.placed c.requires.next did.moved did.clean (did.flushed told) (did.others told) (settled g c told)
+    let moved : IsMoved (given g c told) (moved_past span n) new = subst (λ (b : Given). IsMoved b (moved_past span n) new) did.keeps.bank.same next.moved in
+    let gone1 = gone-past (given g c told) n new span did.keeps.moved.placed (next-moved (given g c told) m n span did.keeps.moved c.requires.next) moved ledger gone in
+    let early = did.safe told world ledger (room-first m tape0 tape1 tape2 room (grows-longer next.bank.grows told)) gone1 unclean safe in
+    let right = past-right (OpensFit world) world.scope (given g c told) ledger m n span list tape0 tape1 c.requires.stands.placed c.requires.next did.keeps.moved did.clean (did.flushed told) (did.others told) (settled g c told)
     (copied refl) gone1 in
     safe-then (OpensFit world) world.scope (given g c told) ledger n new tape0 tape1 tape2 early
-    (keeps-from world (given g c told) given1 ledger new tape1 tape2 did.given
-    (next.safe told world ledger (room-then tape2 told room did.rise) gone (λ dirty. unclean (sym did.clean ∙ dirty))
-    (subst (λ (b : Given). IsSteady (OpensFit world) world.scope b ledger n (disk b.start tape1) → IsViewRight (OpensFit world) world.scope b ledger (moved_past span n) (disk b.start tape1)) (sym did.given) right)
-    (over-at world (given g c told) given1 ledger n tape1 did.given early.next)))
+    (keeps-from world (given g c told) given1 ledger new tape1 tape2 did.keeps.bank.same
+    (next.safe told world ledger (room-then tape2 told room did.keeps.rise) gone (λ dirty. unclean (sym did.clean ∙ dirty))
+    (subst (λ (b : Given). IsSteady (OpensFit world) world.scope b ledger n (disk b.start tape1) → IsViewRight (OpensFit world) world.scope b ledger (moved_past span n) (disk b.start tape1)) (sym did.keeps.bank.same) right)
+    (over-at world (given g c told) given1 ledger n tape1 did.keeps.bank.same early.next)))
 
 -- ---- what the searches would find too, for longer
 
-pub move_position-moved-requires-clause-slots : goal.move_position-moved-requires-clause-slots
-move_position-moved-requires-clause-slots g c = subst (λ (b : Given). b.slots ≤ 32) (sym c.flush_naming-flushed.ensures.given) c.requires.slots
-
-pub move_position-moved-requires-clause-placed : goal.move_position-moved-requires-clause-placed
-move_position-moved-requires-clause-placed g c = subst (λ (b : Given). IsPlaced b c.flush_naming-flushed.new.members) (sym c.flush_naming-flushed.ensures.given) c.flush_naming-flushed.ensures.moved.placed
-
-pub move_position-moved-requires-clause-unlost : goal.move_position-moved-requires-clause-unlost
-move_position-moved-requires-clause-unlost g c = c.flush_naming-flushed.ensures.moved.unlost
-
-pub returns-clause-given : goal.returns-clause-given
-returns-clause-given g c = c.move_position-moved.ensures.given ∙ c.flush_naming-flushed.ensures.given
-
 pub is_some-requires : goal.is_some-requires
 is_some-requires g c κs a has = absurd (not-mem-nil has)
+
+pub returns-then-is_some-clause-bank : goal.returns-then-is_some-clause-bank
+returns-then-is_some-clause-bank g c = c.flush_naming-flushed.ensures.keeps.bank
+
+pub flush_naming-flushed-requires : goal.flush_naming-flushed-requires
+flush_naming-flushed-requires g c = record { stands = c.requires.stands }

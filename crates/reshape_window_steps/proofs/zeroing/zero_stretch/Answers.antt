@@ -4,62 +4,42 @@ use Rattle.reshape_window_rows.specs.stripe_list_Full.{RowStands}
 use Rattle.reshape_window_rows.specs.bank_Given.{Given}
 use Rattle.reshape_window_rows.specs.stripe_row_Rows.{present, reading_of}
 use Rattle.reshape_window_rows.specs.history_Sound.{OpensFit}
-use Rattle.reshape_window_rows.proofs.crash_safety_laws_Risen.{risen-lost}
-use Rattle.reshape_window_rows.specs.array_members_Placed.{AreLost}
 use Rattle.reshape_window_rows.proofs.array_members_Fit.{has-rows}
 use Rattle.reshape_window_rows.proofs.array_members_MemberLaws.{are_lost}
-use Rattle.reshape_window_rows.proofs.array_members_MovedLaws.{moved-lost}
 use Rattle.reshape_window_rows.proofs.array_members_MarkedLaws.{grows-marks}
-use Rattle.reshape_window_rows.proofs.array_members_LackingLaws.{since-lost}
 use Rattle.reshape_window_steps.proofs.CopyLaws.{out-of}
 use Rattle.reshape_window_steps.proofs.ZeroLaws.{safe-zeroed}
 use Rattle.reshape_window_rows.specs.raid_types_Sectors.{Sector}
 use Rattle.reshape_window_rows.specs.bank_Tape.{IsIn}
 use Rattle.reshape_window_rows.proofs.stripe_row_Turns.{marks_last}
 use Rattle.reshape_window_rows.proofs.sb_safe_updates_Unused.{unused-role}
+use Rattle.reshape_window_rows.proofs.sb_safe_updates_FrameLaws.{keeps-lost}
 use Rattle.reshape_window_steps.proofs.zeroing.zero_stretch.Goals as goal
 
 pub zero_stripe-zeroed-requires-clause-rows : goal.zero_stripe-zeroed-requires-clause-rows
-zero_stripe-zeroed-requires-clause-rows g c = has-rows (g.B.Bank.given c.args.bank.now) c.args.members.now c.requires.placed c.args.shape.now (inr c.requires.shape)
+zero_stripe-zeroed-requires-clause-rows g c = has-rows (g.B.Bank.given c.args.bank.now) c.args.members.now c.requires.stands.placed c.args.shape.now (inr c.requires.shape)
 
-pub returns-clause-moved : goal.returns-clause-moved
-returns-clause-moved g c =
+pub returns-clause-keeps : goal.returns-clause-keeps
+returns-clause-keeps g c =
     let m = c.args.members.now in
     let n = c.zero_stripe-zeroed.new.members in
     let given = g.B.Bank.given c.args.bank.now in
     let did = c.zero_stripe-zeroed.ensures in
-    let f0 = g.B.Bank.faults_of c.args.bank.now in
-    let f1 = g.B.Bank.faults_of c.zero_stripe-zeroed.new.bank in
-    let r = c.zero_stripe-zeroed.result.lost in
-    let shape = c.args.shape.now in
-    let lost : AreLost given shape m n r f0 f1 = are_lost given shape m n r f0 f1 c.requires.placed did.lost.members did.lost.failed did.lost.never_falls in
-    moved-lost given shape m n r f0 f1 c.requires.placed lost c.requires.unlost
-
-pub returns-clause-failed : goal.returns-clause-failed
-returns-clause-failed g c =
-    let m = c.args.members.now in
-    let n = c.zero_stripe-zeroed.new.members in
-    let given = g.B.Bank.given c.args.bank.now in
-    let did = c.zero_stripe-zeroed.ensures in
-    let f0 = g.B.Bank.faults_of c.args.bank.now in
-    let f1 = g.B.Bank.faults_of c.zero_stripe-zeroed.new.bank in
-    let r = c.zero_stripe-zeroed.result.lost in
-    let shape = c.args.shape.now in
-    since-lost given shape m n r f0 f1 (are_lost given shape m n r f0 f1 c.requires.placed did.lost.members did.lost.failed did.lost.never_falls)
-
-pub returns-clause-grows : goal.returns-clause-grows
-returns-clause-grows g c = grows-marks c.zero_stripe-zeroed.ensures.each_mark
-
-pub returns-clause-rise : goal.returns-clause-rise
-returns-clause-rise g c =
-    let did = c.zero_stripe-zeroed.ensures in
-    risen-lost c.args.members.now c.zero_stripe-zeroed.new.members c.zero_stripe-zeroed.result.lost (g.B.Bank.tape c.args.bank.now) (g.B.Bank.tape c.zero_stripe-zeroed.new.bank) did.lost.members did.each_mark.longer
+    let lost = are_lost given c.args.shape.now m n c.zero_stripe-zeroed.result.lost (g.B.Bank.faults_of c.args.bank.now) (g.B.Bank.faults_of c.zero_stripe-zeroed.new.bank)
+    c.requires.stands.placed did.lost.members did.lost.failed did.lost.never_falls in
+    keeps-lost c.args.bank.now c.zero_stripe-zeroed.new.bank c.args.shape.now m n c.zero_stripe-zeroed.result.lost c.requires.stands lost did.given (grows-marks c.zero_stripe-zeroed.ensures.each_mark)
+    (λ told s k v unused may.
+    let kept = marks_last did.each_mark told in
+    elim (kept.0 s k) [
+      | inl same ↦ same v may
+      | inr at ↦ absurd (unused-role given m c.requires.stands.placed s unused at.role at.held)
+    ])
 
 pub returns-clause-safe : goal.returns-clause-safe
 returns-clause-safe g c = λ told world ledger safe.
     let did = c.zero_stripe-zeroed.ensures in
     safe-zeroed (OpensFit world) world.scope (g.B.Bank.given c.args.bank.now) ledger c.args.members.now c.zero_stripe-zeroed.new.members c.zero_stripe-zeroed.result.lost
-    (g.B.Bank.tape c.args.bank.now) (g.B.Bank.tape c.zero_stripe-zeroed.new.bank) told did.lost.members c.requires.placed.holders c.requires.unlost c.requires.through did.each_mark safe
+    (g.B.Bank.tape c.args.bank.now) (g.B.Bank.tape c.zero_stripe-zeroed.new.bank) told did.lost.members c.requires.stands.placed.holders c.requires.stands.unlost c.requires.through did.each_mark safe
 
 pub returns-clause-stands : goal.returns-clause-stands
 returns-clause-stands g c = λ told list zeros row at.
@@ -85,13 +65,3 @@ returns-clause-others g c = λ told row out role slot held.
 
 pub returns-clause-headers : goal.returns-clause-headers
 returns-clause-headers g c = λ told s v may. let kept = marks_last c.zero_stripe-zeroed.ensures.each_mark told in subst (λ (l : List Sector). IsIn l v) (kept.1 s 0 (omega arith)) may
-
-pub returns-clause-unused : goal.returns-clause-unused
-returns-clause-unused g c = λ told s k v unused may.
-    let given = g.B.Bank.given c.args.bank.now in
-    let m = c.args.members.now in
-    let kept = marks_last c.zero_stripe-zeroed.ensures.each_mark told in
-    elim (kept.0 s k) [
-      | inl same ↦ same v may
-      | inr at ↦ absurd (unused-role given m c.requires.placed s unused at.role at.held)
-    ]

@@ -32,11 +32,11 @@ use Rattle.sb_add_spare.proofs.adding.add_member.Goals.{After-without}
 use Rattle.sb_add_spare.proofs.adding.add_member.Goals as goal
 
 pub holders-held-requires-clause-small : goal.holders-held-requires-clause-small
-holders-held-requires-clause-small g c role slot held = (c.requires.placed.holders role slot held).small
+holders-held-requires-clause-small g c role slot held = (c.requires.stands.placed.holders role slot held).small
 
 pub update-lost-requires-clause-added : goal.update-lost-requires-clause-added
 update-lost-requires-clause-added g c =
-    let few = c.requires.slots in
+    let few = c.requires.stands.slots in
     let lt = c.requires.slot in
     subst (λ (ch : Change). IfSome ch.added (IsAddable (g.B.Bank.given c.args.bank.now))) (sym c.adding-change.ensures)
     (addable (g.B.Bank.given c.args.bank.now) c.args.members.now c.args.slot c.args.sb.now c.requires.made (omega (arith, few, lt)) c.requires.slot)
@@ -45,7 +45,7 @@ pub update-lost-requires-clause-count : goal.update-lost-requires-clause-count
 update-lost-requires-clause-count g c =
     let m = c.args.members.now in
     subst (λ (ch : Change). role_count ch.shared ≤ 16) (sym c.adding-change.ensures)
-    (few-roles m.newest c.requires.placed.fit.valid)
+    (few-roles m.newest c.requires.stands.placed.fit.valid)
 
 pub update-lost-requires-clause-gives : goal.update-lost-requires-clause-gives
 update-lost-requires-clause-gives g c = λ s below.
@@ -92,22 +92,22 @@ module _ (g : Over) (c : After-without g) where
       }
 
   few : c.args.slot < 32
-  few = let all = c.requires.slots in let lt = c.requires.slot in omega (arith, all, lt)
+  few = let all = c.requires.stands.slots in let lt = c.requires.slot in omega (arith, all, lt)
 
   with-placed : IsPlaced (g.B.Bank.given c.args.bank.now) (with_spare c.args.slot c.args.sb.now c.args.members.now)
-  with-placed = placed-with (g.B.Bank.given c.args.bank.now) c.args.members.now c.args.slot c.args.sb.now c.requires.made c.requires.placed c.requires.unlost c.requires.free c.requires.slots c.requires.slot
+  with-placed = placed-with (g.B.Bank.given c.args.bank.now) c.args.members.now c.args.slot c.args.sb.now c.requires.made c.requires.stands.placed c.requires.stands.unlost c.requires.stands.free c.requires.stands.slots c.requires.slot
       c.check_count.ensures.own (λ role held. c.requires.untaken role (inl held))
 
   with-unlost : AreUnlost (with_spare c.args.slot c.args.sb.now c.args.members.now)
-  with-unlost = unlost-roles (g.B.Bank.given c.args.bank.now) c.args.members.now c.args.slot c.args.sb.now c.requires.made c.requires.placed c.requires.unlost c.requires.free c.requires.slots c.requires.slot
+  with-unlost = unlost-roles (g.B.Bank.given c.args.bank.now) c.args.members.now c.args.slot c.args.sb.now c.requires.made c.requires.stands.placed c.requires.stands.unlost c.requires.stands.free c.requires.stands.slots c.requires.slot
       c.check_count.ensures.own (λ role held. c.requires.untaken role (inl held))
 
   with-free : AreSparesFree (g.B.Bank.given c.args.bank.now) (with_spare c.args.slot c.args.sb.now c.args.members.now)
-  with-free = free-with (g.B.Bank.given c.args.bank.now) c.args.members.now c.args.slot c.args.sb.now c.requires.made c.requires.placed c.requires.unlost c.requires.free c.requires.slots c.requires.slot
+  with-free = free-with (g.B.Bank.given c.args.bank.now) c.args.members.now c.args.slot c.args.sb.now c.requires.made c.requires.stands.placed c.requires.stands.unlost c.requires.stands.free c.requires.stands.slots c.requires.slot
       c.check_count.ensures.own (λ role held. c.requires.untaken role (inl held))
 
   with-spare : has_spare (with_spare c.args.slot c.args.sb.now c.args.members.now).spares c.args.slot ≡ true
-  with-spare = spare-with (g.B.Bank.given c.args.bank.now) c.args.members.now c.args.slot c.args.sb.now c.requires.made c.requires.placed c.requires.unlost c.requires.free c.requires.slots c.requires.slot
+  with-spare = spare-with (g.B.Bank.given c.args.bank.now) c.args.members.now c.args.slot c.args.sb.now c.requires.made c.requires.stands.placed c.requires.stands.unlost c.requires.stands.free c.requires.stands.slots c.requires.slot
       c.check_count.ensures.own (λ role held. c.requires.untaken role (inl held))
 
   result : (s : ℕ) → has_slot c.update-lost.result s ≡ (has_slot c.update-lost.new.members.lost s && not (has_slot (with_spare c.args.slot c.args.sb.now c.args.members.now).lost s))
@@ -121,7 +121,7 @@ module _ (g : Over) (c : After-without g) where
   ]
 
   spare-or-told : (s : ℕ) → has_spare (with_spare c.args.slot c.args.sb.now c.args.members.now).spares s ≡ true → (has_spare c.update-lost.new.members.spares s ≡ true) ⊎ (has_slot c.without.result s ≡ true)
-  spare-or-told = told-spare did c.requires.placed with-unlost with-free c.holders-held.result c.update-lost.result c.without.result (g.B.Bank.faults_of c.args.bank.now) (g.B.Bank.faults_of c.update-lost.new.bank)
+  spare-or-told = told-spare did c.requires.stands.placed with-unlost with-free c.holders-held.result c.update-lost.result c.without.result (g.B.Bank.faults_of c.args.bank.now) (g.B.Bank.faults_of c.update-lost.new.bank)
       c.holders-held.ensures result c.without.ensures small losses
 
   alive : has_slot (live_set c.args.members.now (adding c.args.members.now c.args.slot c.args.sb.now)) c.args.slot ≡ true
@@ -131,18 +131,20 @@ module _ (g : Over) (c : After-without g) where
   kept : has_slot c.without.result c.args.slot ≡ false → has_slot c.update-lost.new.members.lost c.args.slot ≡ false
   kept none = ⊎_elim (λ spare. lost-spare did c.args.slot spare) (λ told. absurd (let e = sym told ∙ none in cc)) (spare-or-told c.args.slot with-spare)
 
-pub returns-clause-moved : goal.returns-clause-moved
-returns-clause-moved g c = added-moved (did g c) c.requires.placed (with-placed g c) (did g c).held
-
-pub returns-clause-failed : goal.returns-clause-failed
-returns-clause-failed g c = added-failed (did g c) c.requires.placed (with-unlost g c) (with-free g c) c.holders-held.result c.update-lost.result c.without.result
-    (g.B.Bank.faults_of c.args.bank.now) (g.B.Bank.faults_of c.update-lost.new.bank) c.holders-held.ensures (result g c) c.without.ensures (small g c) (losses g c)
+pub returns-clause-keeps : goal.returns-clause-keeps
+returns-clause-keeps g c = record {
+  bank = record { same = c.update-lost.ensures.given; grows = grows-marks c.update-lost.ensures.update.marks; counts = c.update-lost.ensures.counts };
+  moved = added-moved (did g c) c.requires.stands.placed (with-placed g c) (did g c).held;
+  failed = added-failed (did g c) c.requires.stands.placed (with-unlost g c) (with-free g c) c.holders-held.result c.update-lost.result c.without.result
+      (g.B.Bank.faults_of c.args.bank.now) (g.B.Bank.faults_of c.update-lost.new.bank) c.holders-held.ensures (result g c) c.without.ensures (small g c) (losses g c);
+  rise = added-risen (did g c) c.requires.stands.placed;
+}
 
 pub returns-clause-spare : goal.returns-clause-spare
 returns-clause-spare g c = λ none. ⊎_elim (λ spare. spare) (λ told. absurd (let e = sym told ∙ none in cc)) (spare-or-told g c c.args.slot (with-spare g c))
 
 pub returns-clause-lost : goal.returns-clause-lost
-returns-clause-lost g c = λ is. told-none (did g c) c.requires.placed (with-unlost g c) (with-free g c) c.holders-held.result c.update-lost.result c.without.result
+returns-clause-lost g c = λ is. told-none (did g c) c.requires.stands.placed (with-unlost g c) (with-free g c) c.holders-held.result c.update-lost.result c.without.result
     (g.B.Bank.faults_of c.args.bank.now) (g.B.Bank.faults_of c.update-lost.new.bank) c.holders-held.ensures (result g c) c.without.ensures (small g c) (losses g c) c.args.slot is
 
 pub returns-clause-others : goal.returns-clause-others
@@ -151,21 +153,15 @@ returns-clause-others g c = λ told. others-updated (g.B.Bank.given c.args.bank.
 pub returns-clause-rest : goal.returns-clause-rest
 returns-clause-rest g c = λ told. added-rest (did g c) told
 
-pub returns-clause-rise : goal.returns-clause-rise
-returns-clause-rise g c = added-risen (did g c) c.requires.placed
-
 pub returns-clause-stored : goal.returns-clause-stored
 returns-clause-stored g c = λ none. added-stored (did g c) (few g c) c.check_count.ensures.own (alive g c) (kept g c none)
-
-pub returns-clause-grows : goal.returns-clause-grows
-returns-clause-grows g c = grows-marks c.update-lost.ensures.update.marks
 
 pub returns-clause-safe : goal.returns-clause-safe
 returns-clause-safe g c = λ tell world told room gone unclean of_scope unknown second live safe.
     adding-safe (OpensFit world) world.scope (g.B.Bank.given c.args.bank.now) told c.update-lost.new.members c.args.slot c.args.sb.now (g.B.Bank.tape c.args.bank.now) (g.B.Bank.tape c.update-lost.new.bank)
-    c.args.members.now c.requires.fresh (left-steady live safe) c.requires.placed c.requires.unlost c.requires.free
+    c.args.members.now c.requires.fresh (left-steady live safe) c.requires.stands.placed c.requires.stands.unlost c.requires.stands.free
     (record {
-      few = c.requires.slots;
+      few = c.requires.stands.slots;
       there = c.requires.slot;
       long = c.check_count.ensures.own;
       small = c.check_count.ensures.lost;
@@ -183,7 +179,7 @@ returns-clause-safe g c = λ tell world told room gone unclean of_scope unknown 
     unspare false is = refl
 
 pub update-lost-requires-clause-roles : goal.update-lost-requires-clause-roles
-update-lost-requires-clause-roles g c = let most = few-placed (g.B.Bank.given c.args.bank.now) c.args.members.now c.requires.placed in omega (arith, most)
+update-lost-requires-clause-roles g c = let most = few-placed (g.B.Bank.given c.args.bank.now) c.args.members.now c.requires.stands.placed in omega (arith, most)
 
 pub holders-held-requires-clause-few : goal.holders-held-requires-clause-few
-holders-held-requires-clause-few g c = let most = few-placed (g.B.Bank.given c.args.bank.now) c.args.members.now c.requires.placed in omega (arith, most)
+holders-held-requires-clause-few g c = let most = few-placed (g.B.Bank.given c.args.bank.now) c.args.members.now c.requires.stands.placed in omega (arith, most)

@@ -1,4 +1,4 @@
-use Rattle.std.proofs.Common.{ℕ, refl, sym, ◌∙◌, ap, subst, arith}
+use Rattle.std.proofs.Common.{ℕ, ◌≤◌, refl, sym, ◌∙◌, ap, subst, arith}
 use Rattle.sb_update.specs.bank_Given.{Given}
 use Rattle.sb_update.specs.bank_Tape.{Contents, disk}
 use Rattle.raid_layout.specs.raid_types_Sectors.{Sector}
@@ -16,55 +16,57 @@ use Rattle.array_members.specs.crash_views_Views.{Ledger}
 use Rattle.array_members.specs.crash_safety_laws_Steady.{IsSafeOver, KeepsSafe, IsUncleanTold, given_back}
 use Rattle.array_members.proofs.Flushed.{contents-added}
 use Rattle.array_members.proofs.MarkedSafe.{flushed-safe, lost-safe, added-longer}
-use Rattle.array_members.proofs.MovedLaws.{grows-then}
 use Rattle.array_members.proofs.crash_safety_laws_Risen.{risen-none, risen-lost, risen-then, room-then}
 use Rattle.array_members.proofs.SafeStretch.{safe-then, over-at, keeps-from}
 use Rattle.array_members.proofs.Fit.{few}
 use Rattle.sb_safe_updates.proofs.WholeFlushed.{flush-added, ok-of, flushed-full, since-earlier, lost-moved, mid-placed, mid-free, out, failed-moved, failed-since}
+use Rattle.sb_safe_updates.specs.Frame.{Stands, GoesOn}
 use Rattle.sb_safe_updates.proofs.giving.flush_and_record.Given.{Over}
 use Rattle.sb_safe_updates.proofs.giving.flush_and_record.Goals.{After-make_whole}
+use Rattle.sb_safe_updates.proofs.FrameLaws.{goes-then}
 use Rattle.sb_safe_updates.proofs.giving.flush_and_record.Goals as goal
 
 pub flush-requires : goal.flush-requires
-flush-requires g c = (c.requires.placed.holders c.args.role c.args.slot (ap holder c.requires.recovering)).known
+flush-requires g c = (c.requires.stands.placed.holders c.args.role c.args.slot (ap holder c.requires.recovering)).known
 
 pub lose_slot-requires-clause-slot : goal.lose_slot-requires-clause-slot
-lose_slot-requires-clause-slot g c = (c.requires.placed.holders c.args.role c.args.slot (ap holder c.requires.recovering)).small
+lose_slot-requires-clause-slot g c = (c.requires.stands.placed.holders c.args.role c.args.slot (ap holder c.requires.recovering)).small
 
 pub lose_slot-requires-clause-small : goal.lose_slot-requires-clause-small
-lose_slot-requires-clause-small g c role slot held = (c.requires.placed.holders role slot held).small
+lose_slot-requires-clause-small g c role slot held = (c.requires.stands.placed.holders role slot held).small
 
 -- ---- where the slot failed
 
-pub record_missing-requires-clause-placed : goal.record_missing-requires-clause-placed
-record_missing-requires-clause-placed g c = mid-placed (g.B.Bank.given c.args.bank.now) (g.B.Bank.given c.flush.new.self) c.args.members.now c.lose_slot.new.members c.lose_slot.result c.args.role c.args.slot
-    c.requires.placed c.requires.unlost c.requires.free c.requires.role c.requires.recovering c.flush.ensures.given c.lose_slot.ensures.members c.lose_slot.ensures.alone
-
-pub record_missing-requires-clause-unlost : goal.record_missing-requires-clause-unlost
-record_missing-requires-clause-unlost g c = (lost-moved (g.B.Bank.given c.args.bank.now) (g.B.Bank.given c.flush.new.self) c.args.members.now c.lose_slot.new.members c.lose_slot.result c.args.role c.args.slot
-    c.requires.placed c.requires.unlost c.requires.free c.requires.role c.requires.recovering c.flush.ensures.given c.lose_slot.ensures.members c.lose_slot.ensures.alone).unlost
-
-pub record_missing-requires-clause-free : goal.record_missing-requires-clause-free
-record_missing-requires-clause-free g c = mid-free (g.B.Bank.given c.args.bank.now) (g.B.Bank.given c.flush.new.self) c.args.members.now c.lose_slot.new.members c.lose_slot.result c.args.role c.args.slot
-    c.requires.placed c.requires.unlost c.requires.free c.requires.role c.requires.recovering c.flush.ensures.given c.lose_slot.ensures.members c.lose_slot.ensures.alone
+pub record_missing-requires : goal.record_missing-requires
+record_missing-requires g c = record {
+  stands = record {
+    slots = subst (λ (b : Given). b.slots ≤ 32) (sym c.flush.ensures.given) c.requires.stands.slots;
+    placed = mid-placed (g.B.Bank.given c.args.bank.now) (g.B.Bank.given c.flush.new.self) c.args.members.now c.lose_slot.new.members c.lose_slot.result c.args.role c.args.slot
+        c.requires.stands.placed c.requires.stands.unlost c.requires.stands.free c.requires.role c.requires.recovering c.flush.ensures.given c.lose_slot.ensures.members c.lose_slot.ensures.alone;
+    unlost = (lost-moved (g.B.Bank.given c.args.bank.now) (g.B.Bank.given c.flush.new.self) c.args.members.now c.lose_slot.new.members c.lose_slot.result c.args.role c.args.slot
+        c.requires.stands.placed c.requires.stands.unlost c.requires.stands.free c.requires.role c.requires.recovering c.flush.ensures.given c.lose_slot.ensures.members c.lose_slot.ensures.alone).unlost;
+    free = mid-free (g.B.Bank.given c.args.bank.now) (g.B.Bank.given c.flush.new.self) c.args.members.now c.lose_slot.new.members c.lose_slot.result c.args.role c.args.slot
+        c.requires.stands.placed c.requires.stands.unlost c.requires.stands.free c.requires.role c.requires.recovering c.flush.ensures.given c.lose_slot.ensures.members c.lose_slot.ensures.alone;
+  };
+}
 
 pub returns-then-is_err-clause-moved : goal.returns-then-is_err-clause-moved
 returns-then-is_err-clause-moved g c = failed-moved (g.B.Bank.given c.args.bank.now) (g.B.Bank.given c.flush.new.self) c.args.members.now c.lose_slot.new.members c.lose_slot.result c.args.role c.args.slot
-    c.requires.placed c.requires.unlost c.requires.free c.requires.role c.requires.recovering c.flush.ensures.given c.lose_slot.ensures.members c.lose_slot.ensures.alone
-    c.record_missing.new.members c.record_missing.ensures.moved c.requires.few
+    c.requires.stands.placed c.requires.stands.unlost c.requires.stands.free c.requires.role c.requires.recovering c.flush.ensures.given c.lose_slot.ensures.members c.lose_slot.ensures.alone
+    c.record_missing.new.members c.record_missing.ensures.keeps.moved c.requires.few
 
 pub returns-then-is_err-clause-failed : goal.returns-then-is_err-clause-failed
 returns-then-is_err-clause-failed g c = failed-since (g.B.Bank.given c.args.bank.now) (g.B.Bank.given c.flush.new.self) c.args.members.now c.lose_slot.new.members c.lose_slot.result c.args.role c.args.slot
-    c.requires.placed c.requires.unlost c.requires.free c.requires.role c.requires.recovering c.flush.ensures.given c.lose_slot.ensures.members c.lose_slot.ensures.alone
-    c.record_missing.new.members c.record_missing.ensures.moved c.record_missing.result (g.B.Bank.faults_of c.args.bank.now) (g.B.Bank.faults_of c.flush.new.self) (g.B.Bank.faults_of c.record_missing.new.bank)
-    c.flush.ensures.cause.never_falls c.record_missing.ensures.counts (c.flush.ensures.cause.failed (sym c.is_err.ensures.value ∙ c.if-is_err.true)) c.record_missing.ensures.failed
+    c.requires.stands.placed c.requires.stands.unlost c.requires.stands.free c.requires.role c.requires.recovering c.flush.ensures.given c.lose_slot.ensures.members c.lose_slot.ensures.alone
+    c.record_missing.new.members c.record_missing.ensures.keeps.moved c.record_missing.result (g.B.Bank.faults_of c.args.bank.now) (g.B.Bank.faults_of c.flush.new.self) (g.B.Bank.faults_of c.record_missing.new.bank)
+    c.flush.ensures.cause.never_falls c.record_missing.ensures.keeps.bank.counts (c.flush.ensures.cause.failed (sym c.is_err.ensures.value ∙ c.if-is_err.true)) c.record_missing.ensures.keeps.failed
 
 pub returns-then-is_err-clause-rise : goal.returns-then-is_err-clause-rise
 returns-then-is_err-clause-rise g c =
     let tape0 = g.B.Bank.tape c.args.bank.now in
     let tape1 = g.B.Bank.tape c.flush.new.self in
     risen-then (risen-lost c.args.members.now c.lose_slot.new.members c.lose_slot.result tape0 tape1 c.lose_slot.ensures.members
-    (λ tell. added-longer tape0 tape1 (flush-added c.args.slot c.flush.ensures.did tell))) c.record_missing.ensures.rise
+    (λ tell. added-longer tape0 tape1 (flush-added c.args.slot c.flush.ensures.did tell))) c.record_missing.ensures.keeps.rise
 
 pub returns-then-is_err-clause-safe : goal.returns-then-is_err-clause-safe
 returns-then-is_err-clause-safe g c = λ tell world told room gone here unclean premise does list stands allowed full now.
@@ -87,17 +89,23 @@ returns-then-is_err-clause-safe g c = λ tell world told room gone here unclean 
 pub returns-then-is_err-clause-given_back : goal.returns-then-is_err-clause-given_back
 returns-then-is_err-clause-given_back g c = λ whole tell world told room gone here unclean premise does list stands allowed full now.
     absurd (out (g.B.Bank.given c.args.bank.now) (g.B.Bank.given c.flush.new.self) c.args.members.now c.lose_slot.new.members c.lose_slot.result c.args.role c.args.slot
-    c.requires.placed c.requires.unlost c.requires.free c.requires.role c.requires.recovering c.flush.ensures.given c.lose_slot.ensures.members c.lose_slot.ensures.alone
-    c.record_missing.new.members c.record_missing.ensures.moved c.args.role c.args.slot (ap holder whole) refl)
+    c.requires.stands.placed c.requires.stands.unlost c.requires.stands.free c.requires.role c.requires.recovering c.flush.ensures.given c.lose_slot.ensures.members c.lose_slot.ensures.alone
+    c.record_missing.new.members c.record_missing.ensures.keeps.moved c.args.role c.args.slot (ap holder whole) refl)
 
 -- ---- where it was flushed
 
 pub returns-clause-failed : goal.returns-clause-failed
 returns-clause-failed g c = since-earlier (with_whole c.args.role c.args.slot c.args.members.now) c.make_whole.new.members c.make_whole.result
-    (g.B.Bank.faults_of c.args.bank.now) (g.B.Bank.faults_of c.flush.new.self) (g.B.Bank.faults_of c.make_whole.new.bank) c.flush.ensures.cause.never_falls c.make_whole.ensures.counts c.make_whole.ensures.failed
+    (g.B.Bank.faults_of c.args.bank.now) (g.B.Bank.faults_of c.flush.new.self) (g.B.Bank.faults_of c.make_whole.new.bank) c.flush.ensures.cause.never_falls c.make_whole.ensures.bank.counts c.make_whole.ensures.failed
 
-pub returns-clause-grows : goal.returns-clause-grows
-returns-clause-grows g c = grows-then (record { more = λ told. let added = flush-added c.args.slot c.flush.ensures.did told in (added.0, added.2) }) c.make_whole.ensures.grows
+pub returns-clause-bank : goal.returns-clause-bank
+returns-clause-bank g c =
+    let flushed : GoesOn g.B.Bank.tells g.B.Bank.given g.B.Bank.tape g.B.Bank.faults_of c.args.bank.now c.flush.new.self = record {
+      same = c.flush.ensures.given;
+      grows = record { more = λ told. let added = flush-added c.args.slot c.flush.ensures.did told in (added.0, added.2) };
+      counts = c.flush.ensures.cause.never_falls;
+    } in
+    goes-then flushed c.make_whole.ensures.bank
 
 pub returns-clause-others : goal.returns-clause-others
 returns-clause-others g c = λ told s k other.
@@ -167,4 +175,16 @@ returns-clause-given_back g c = λ whole tell world told room gone here unclean 
     (over-at world given given1 told c.args.members.now tape1 c.flush.ensures.given kept.next))
 
 pub lose_slot-requires-clause-few : goal.lose_slot-requires-clause-few
-lose_slot-requires-clause-few g c = let most = few (g.B.Bank.given c.args.bank.now) c.args.members.now c.requires.placed in omega (arith, most)
+lose_slot-requires-clause-few g c = let most = few (g.B.Bank.given c.args.bank.now) c.args.members.now c.requires.stands.placed in omega (arith, most)
+
+pub make_whole-requires-clause-stands : goal.make_whole-requires-clause-stands
+make_whole-requires-clause-stands g c = subst (λ (b : Given). Stands b c.args.members.now) (sym c.flush.ensures.given) c.requires.stands
+
+pub returns-then-is_err-clause-bank : goal.returns-then-is_err-clause-bank
+returns-then-is_err-clause-bank g c =
+    let flushed : GoesOn g.B.Bank.tells g.B.Bank.given g.B.Bank.tape g.B.Bank.faults_of c.args.bank.now c.flush.new.self = record {
+      same = c.flush.ensures.given;
+      grows = record { more = λ told. let added = flush-added c.args.slot c.flush.ensures.did told in (added.0, added.2) };
+      counts = c.flush.ensures.cause.never_falls;
+    } in
+    goes-then flushed c.record_missing.ensures.keeps.bank

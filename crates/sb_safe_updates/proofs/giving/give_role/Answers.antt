@@ -33,13 +33,13 @@ within : {given : Given} {m : Members} → IsPlaced given m → {role : ℕ} →
 within {given} {m} placed {role} below = subst (λ (n : ℕ). role < n) placed.roles (role-within given m placed role below)
 
 pub holders-requires-clause-small : goal.holders-requires-clause-small
-holders-requires-clause-small g c role slot held = (c.requires.placed.holders role slot held).small
+holders-requires-clause-small g c role slot held = (c.requires.stands.placed.holders role slot held).small
 
 pub update-lost-requires-clause-gives : goal.update-lost-requires-clause-gives
 update-lost-requires-clause-gives g c s below =
     subst (λ (ch : Change). IsRoleGive (give_of ch.gives s)) (sym c.giving-change.ensures) (elim (cases_eq s c.args.slot) [
-      | inl same ↦ subst IsRoleGive (sym (ap (give_of (gives_of c.args.slot c.args.role (Some 0))) same ∙ give-here c.args.slot c.args.role (Some 0) (c.requires.free c.args.slot c.requires.spare).room.small))
-          (let most = few-roles c.args.members.now.newest c.requires.placed.fit.valid in let lt = within c.requires.placed c.requires.role in omega (arith, most, lt))
+      | inl same ↦ subst IsRoleGive (sym (ap (give_of (gives_of c.args.slot c.args.role (Some 0))) same ∙ give-here c.args.slot c.args.role (Some 0) (c.requires.stands.free c.args.slot c.requires.spare).room.small))
+          (let most = few-roles c.args.members.now.newest c.requires.stands.placed.fit.valid in let lt = within c.requires.stands.placed c.requires.role in omega (arith, most, lt))
       | inr apart ↦ subst IsRoleGive (sym (give-other c.args.slot c.args.role (Some 0) s apart)) tt
     ])
 
@@ -47,7 +47,7 @@ pub update-lost-requires-clause-alone : goal.update-lost-requires-clause-alone
 update-lost-requires-clause-alone g c =
     subst (λ (ch : Change). AreGivesOfLive c.args.members.now ch) (sym c.giving-change.ensures) (λ s none. elim (cases_eq s c.args.slot) [
       | inl same ↦ absurd (
-          let live = (receiver-of (g.B.Bank.given c.args.bank.now) c.args.members.now c.args.role c.args.slot c.requires.placed c.requires.free (within c.requires.placed c.requires.role) c.requires.vacant c.requires.spare).live in
+          let live = (receiver-of (g.B.Bank.given c.args.bank.now) c.args.members.now c.args.role c.args.slot c.requires.stands.placed c.requires.stands.free (within c.requires.stands.placed c.requires.role) c.requires.vacant c.requires.spare).live in
           let there = ap (λ (t : ℕ). is_in_update c.args.members.now (giving c.args.members.now c.args.slot c.args.role (Some 0)) t) same ∙ ap (λ (b : Bool). b || false) live in
           let clash = sym there ∙ none in cc
           )
@@ -56,7 +56,7 @@ update-lost-requires-clause-alone g c =
 
 module _ (g : Over) (c : After-without g) where
   to : IsReceiver (g.B.Bank.given c.args.bank.now) c.args.members.now c.args.role c.args.slot
-  to = receiver-of (g.B.Bank.given c.args.bank.now) c.args.members.now c.args.role c.args.slot c.requires.placed c.requires.free (within c.requires.placed c.requires.role) c.requires.vacant c.requires.spare
+  to = receiver-of (g.B.Bank.given c.args.bank.now) c.args.members.now c.args.role c.args.slot c.requires.stands.placed c.requires.stands.free (within c.requires.stands.placed c.requires.role) c.requires.vacant c.requires.spare
 
   done : IsChanged g.B.Bank.tells (g.B.Bank.given c.args.bank.now) (giving c.args.members.now c.args.slot c.args.role (Some 0)) c.args.members.now c.update-lost.new.members (g.B.Bank.tape c.args.bank.now)
       (g.B.Bank.tape c.update-lost.new.bank)
@@ -78,7 +78,7 @@ module _ (g : Over) (c : After-without g) where
       })
 
 pub returns-clause-moved : goal.returns-clause-moved
-returns-clause-moved g c = moved-given (g.B.Bank.given c.args.bank.now) (Some 0) c.args.role c.args.slot c.args.members.now c.update-lost.new.members c.requires.placed (to g c) (given-left (done g c)) c.requires.unlost
+returns-clause-moved g c = moved-given (g.B.Bank.given c.args.bank.now) (Some 0) c.args.role c.args.slot c.args.members.now c.update-lost.new.members c.requires.stands.placed (to g c) (given-left (done g c)) c.requires.stands.unlost
 
 pub returns-clause-failed : goal.returns-clause-failed
 returns-clause-failed g c =
@@ -86,9 +86,9 @@ returns-clause-failed g c =
     let given = g.B.Bank.given c.args.bank.now in
     let before = g.B.Bank.faults_of c.args.bank.now in
     let after = g.B.Bank.faults_of c.update-lost.new.bank in
-    failed-given given (Some 0) c.args.role c.args.slot c.args.members.now c.update-lost.new.members c.requires.placed (to g c) (given-left (done g c)) c.with-held.result c.update-lost.result c.without.result before after
-    c.requires.unlost c.requires.free
-    (holders-more given (Some 0) c.args.role c.args.slot c.args.members.now c.update-lost.new.members c.requires.placed (to g c) (given-left (done g c)) c.holders.result c.with-held.result c.holders.ensures c.with-held.ensures)
+    failed-given given (Some 0) c.args.role c.args.slot c.args.members.now c.update-lost.new.members c.requires.stands.placed (to g c) (given-left (done g c)) c.with-held.result c.update-lost.result c.without.result before after
+    c.requires.stands.unlost c.requires.stands.free
+    (holders-more given (Some 0) c.args.role c.args.slot c.args.members.now c.update-lost.new.members c.requires.stands.placed (to g c) (given-left (done g c)) c.holders.result c.with-held.result c.holders.ensures c.with-held.ensures)
     (losses-done (Some 0) c.args.role c.args.slot c.args.members.now c.update-lost.new.members before after c.giving-change.result c.giving-change.ensures did.losses)
     (subst (λ (ch : Change). (s : ℕ) → has_slot c.update-lost.result s ≡ (has_slot c.update-lost.new.members.lost s && not (has_slot (with_added c.args.members.now ch.added).lost s))) c.giving-change.ensures did.result)
     (λ s. elim (cases_lt s 32) [
@@ -96,24 +96,28 @@ returns-clause-failed g c =
       | inr above ↦ none_above c.without.result s (omega arith) above ∙ sym (ap (λ (b : Bool). b && not (has_slot c.with-held.result s)) (none_above c.update-lost.result s (omega arith) above))
     ])
 
-pub returns-clause-grows : goal.returns-clause-grows
-returns-clause-grows g c = grows-marks c.update-lost.ensures.update.marks
+pub returns-clause-bank : goal.returns-clause-bank
+returns-clause-bank g c = record {
+  same = c.update-lost.ensures.given;
+  grows = grows-marks c.update-lost.ensures.update.marks;
+  counts = c.update-lost.ensures.counts;
+}
 
 pub returns-clause-others : goal.returns-clause-others
 returns-clause-others g c = λ told. others-of (g.B.Bank.given c.args.bank.now) (g.B.Bank.tape c.args.bank.now) (g.B.Bank.tape c.update-lost.new.bank)
     (λ s k other. ((done g c).update.end told).touched.elsewhere s k other)
 
 pub returns-clause-rise : goal.returns-clause-rise
-returns-clause-rise g c = risen-changed (done g c) refl (gives-live (g.B.Bank.given c.args.bank.now) c.args.members.now c.requires.placed (Some 0) c.args.role c.args.slot (to g c))
+returns-clause-rise g c = risen-changed (done g c) refl (gives-live (g.B.Bank.given c.args.bank.now) c.args.members.now c.requires.stands.placed (Some 0) c.args.role c.args.slot (to g c))
 
 pub returns-clause-safe : goal.returns-clause-safe
 returns-clause-safe g c = λ tell world told room gone here unclean safe.
     giving-stays-safe (OpensFit world) world.scope (g.B.Bank.given c.args.bank.now) told c.args.role c.args.slot c.args.members.now c.update-lost.new.members (g.B.Bank.tape c.args.bank.now)
     (g.B.Bank.tape c.update-lost.new.bank) (told-changed tell (done g c))
-    (spare-receives (g.B.Bank.given c.args.bank.now) c.args.members.now c.args.role c.args.slot c.requires.placed c.requires.free (within c.requires.placed c.requires.role) c.requires.vacant c.requires.spare) room gone safe
+    (spare-receives (g.B.Bank.given c.args.bank.now) c.args.members.now c.args.role c.args.slot c.requires.stands.placed c.requires.stands.free (within c.requires.stands.placed c.requires.role) c.requires.vacant c.requires.spare) room gone safe
 
 pub update-lost-requires-clause-roles : goal.update-lost-requires-clause-roles
-update-lost-requires-clause-roles g c = let most = few (g.B.Bank.given c.args.bank.now) c.args.members.now c.requires.placed in omega (arith, most)
+update-lost-requires-clause-roles g c = let most = few (g.B.Bank.given c.args.bank.now) c.args.members.now c.requires.stands.placed in omega (arith, most)
 
 pub holders-requires-clause-few : goal.holders-requires-clause-few
-holders-requires-clause-few g c = let most = few (g.B.Bank.given c.args.bank.now) c.args.members.now c.requires.placed in omega (arith, most)
+holders-requires-clause-few g c = let most = few (g.B.Bank.given c.args.bank.now) c.args.members.now c.requires.stands.placed in omega (arith, most)

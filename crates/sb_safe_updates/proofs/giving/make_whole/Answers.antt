@@ -42,16 +42,16 @@ use Rattle.sb_safe_updates.proofs.giving.make_whole.Goals.{After-without}
 use Rattle.sb_safe_updates.proofs.giving.make_whole.Goals as goal
 
 pub giving-change-requires : goal.giving-change-requires
-giving-change-requires g c = (c.requires.placed.holders c.args.role c.args.slot (ap holder c.requires.recovering)).small
+giving-change-requires g c = (c.requires.stands.placed.holders c.args.role c.args.slot (ap holder c.requires.recovering)).small
 
 pub holders-held-requires-clause-small : goal.holders-held-requires-clause-small
-holders-held-requires-clause-small g c role slot held = (c.requires.placed.holders role slot held).small
+holders-held-requires-clause-small g c role slot held = (c.requires.stands.placed.holders role slot held).small
 
 pub update-lost-requires-clause-gives : goal.update-lost-requires-clause-gives
 update-lost-requires-clause-gives g c s below =
     subst (λ (ch : Change). IsRoleGive (give_of ch.gives s)) (sym c.giving-change.ensures) (elim (cases_eq s c.args.slot) [
-      | inl same ↦ subst IsRoleGive (sym (ap (give_of (gives_of c.args.slot c.args.role None)) same ∙ give-here c.args.slot c.args.role None (holder-receives (g.B.Bank.given c.args.bank.now) c.args.members.now c.args.role c.args.slot c.requires.placed c.requires.unlost c.requires.role c.requires.recovering).room.small))
-          (let most = (limited (shape_of c.args.members.now.newest) (valid (g.B.Bank.given c.args.bank.now) c.args.members.now c.requires.placed)).most in let lt = c.requires.role in omega (arith, most, lt))
+      | inl same ↦ subst IsRoleGive (sym (ap (give_of (gives_of c.args.slot c.args.role None)) same ∙ give-here c.args.slot c.args.role None (holder-receives (g.B.Bank.given c.args.bank.now) c.args.members.now c.args.role c.args.slot c.requires.stands.placed c.requires.stands.unlost c.requires.role c.requires.recovering).room.small))
+          (let most = (limited (shape_of c.args.members.now.newest) (valid (g.B.Bank.given c.args.bank.now) c.args.members.now c.requires.stands.placed)).most in let lt = c.requires.role in omega (arith, most, lt))
       | inr apart ↦ subst IsRoleGive (sym (give-other c.args.slot c.args.role None s apart)) tt
     ])
 
@@ -59,7 +59,7 @@ pub update-lost-requires-clause-alone : goal.update-lost-requires-clause-alone
 update-lost-requires-clause-alone g c =
     subst (λ (ch : Change). AreGivesOfLive c.args.members.now ch) (sym c.giving-change.ensures) (λ s none. elim (cases_eq s c.args.slot) [
       | inl same ↦ absurd (
-          let live = (holder-receives (g.B.Bank.given c.args.bank.now) c.args.members.now c.args.role c.args.slot c.requires.placed c.requires.unlost c.requires.role c.requires.recovering).live in
+          let live = (holder-receives (g.B.Bank.given c.args.bank.now) c.args.members.now c.args.role c.args.slot c.requires.stands.placed c.requires.stands.unlost c.requires.role c.requires.recovering).live in
           let there = ap (λ (t : ℕ). is_in_update c.args.members.now (giving c.args.members.now c.args.slot c.args.role None) t) same ∙ ap (λ (b : Bool). b || false) live in
           let clash = sym there ∙ none in cc
           )
@@ -68,7 +68,7 @@ update-lost-requires-clause-alone g c =
 
 module _ (g : Over) (c : After-without g) where
   to : IsReceiver (g.B.Bank.given c.args.bank.now) c.args.members.now c.args.role c.args.slot
-  to = holder-receives (g.B.Bank.given c.args.bank.now) c.args.members.now c.args.role c.args.slot c.requires.placed c.requires.unlost c.requires.role c.requires.recovering
+  to = holder-receives (g.B.Bank.given c.args.bank.now) c.args.members.now c.args.role c.args.slot c.requires.stands.placed c.requires.stands.unlost c.requires.role c.requires.recovering
 
   done : IsChanged g.B.Bank.tells (g.B.Bank.given c.args.bank.now) (giving c.args.members.now c.args.slot c.args.role None) c.args.members.now c.update-lost.new.members (g.B.Bank.tape c.args.bank.now)
       (g.B.Bank.tape c.update-lost.new.bank)
@@ -105,7 +105,7 @@ module _ (g : Over) (c : After-without g) where
       record { changed = told-changed tell done; rounds = λ kept. told-marks tell (rounds kept); past = λ kept one. past kept tell }
 
 pub returns-clause-moved : goal.returns-clause-moved
-returns-clause-moved g c = moved-given (g.B.Bank.given c.args.bank.now) None c.args.role c.args.slot c.args.members.now c.update-lost.new.members c.requires.placed (to g c) (given-left (done g c)) c.requires.unlost
+returns-clause-moved g c = moved-given (g.B.Bank.given c.args.bank.now) None c.args.role c.args.slot c.args.members.now c.update-lost.new.members c.requires.stands.placed (to g c) (given-left (done g c)) c.requires.stands.unlost
 
 pub returns-clause-failed : goal.returns-clause-failed
 returns-clause-failed g c =
@@ -113,9 +113,9 @@ returns-clause-failed g c =
     let given = g.B.Bank.given c.args.bank.now in
     let before = g.B.Bank.faults_of c.args.bank.now in
     let after = g.B.Bank.faults_of c.update-lost.new.bank in
-    failed-given given None c.args.role c.args.slot c.args.members.now c.update-lost.new.members c.requires.placed (to g c) (given-left (done g c)) c.holders-held.result c.update-lost.result c.without.result before after
-    c.requires.unlost c.requires.free
-    (holders-more given None c.args.role c.args.slot c.args.members.now c.update-lost.new.members c.requires.placed (to g c) (given-left (done g c)) c.holders-held.result c.holders-held.result c.holders-held.ensures
+    failed-given given None c.args.role c.args.slot c.args.members.now c.update-lost.new.members c.requires.stands.placed (to g c) (given-left (done g c)) c.holders-held.result c.update-lost.result c.without.result before after
+    c.requires.stands.unlost c.requires.stands.free
+    (holders-more given None c.args.role c.args.slot c.args.members.now c.update-lost.new.members c.requires.stands.placed (to g c) (given-left (done g c)) c.holders-held.result c.holders-held.result c.holders-held.ensures
     (held-already c.args.members.now c.args.role c.args.slot c.holders-held.result c.holders-held.ensures c.requires.recovering))
     (losses-done None c.args.role c.args.slot c.args.members.now c.update-lost.new.members before after c.giving-change.result c.giving-change.ensures did.losses)
     (subst (λ (ch : Change). (s : ℕ) → has_slot c.update-lost.result s ≡ (has_slot c.update-lost.new.members.lost s && not (has_slot (with_added c.args.members.now ch.added).lost s))) c.giving-change.ensures did.result)
@@ -124,15 +124,19 @@ returns-clause-failed g c =
       | inr above ↦ none_above c.without.result s (omega arith) above ∙ sym (ap (λ (b : Bool). b && not (has_slot c.holders-held.result s)) (none_above c.update-lost.result s (omega arith) above))
     ])
 
-pub returns-clause-grows : goal.returns-clause-grows
-returns-clause-grows g c = grows-marks c.update-lost.ensures.update.marks
+pub returns-clause-bank : goal.returns-clause-bank
+returns-clause-bank g c = record {
+  same = c.update-lost.ensures.given;
+  grows = grows-marks c.update-lost.ensures.update.marks;
+  counts = c.update-lost.ensures.counts;
+}
 
 pub returns-clause-others : goal.returns-clause-others
 returns-clause-others g c = λ told. others-of (g.B.Bank.given c.args.bank.now) (g.B.Bank.tape c.args.bank.now) (g.B.Bank.tape c.update-lost.new.bank)
     (λ s k other. ((done g c).update.end told).touched.elsewhere s k other)
 
 pub returns-clause-rise : goal.returns-clause-rise
-returns-clause-rise g c = risen-changed (done g c) refl (gives-live (g.B.Bank.given c.args.bank.now) c.args.members.now c.requires.placed None c.args.role c.args.slot (to g c))
+returns-clause-rise g c = risen-changed (done g c) refl (gives-live (g.B.Bank.given c.args.bank.now) c.args.members.now c.requires.stands.placed None c.args.role c.args.slot (to g c))
 
 -- by the ledger, or by one in which the role isn't gone
 module _ (g : Over) (c : After-without g) (tell : g.B.Bank.tells) (world : World) (told : Ledger) (gone : AreGoneTold told c.update-lost.new.members) (here : told.gone c.args.role ≡ true)
@@ -149,8 +153,8 @@ module _ (g : Over) (c : After-without g) (tell : g.B.Bank.tells) (world : World
       let before = g.B.Bank.tape c.args.bank.now in
       let after = g.B.Bank.tape c.update-lost.new.bank in
       making-safe (OpensFit world) world.scope given told more (giving m c.args.slot c.args.role None) c.args.slot c.args.role m n before after (made g c tell) refl
-      (gives-live given m c.requires.placed None c.args.role c.args.slot (to g c)) room
-      (λ steady. makable (OpensFit world) world.scope given told c.args.role c.args.slot m n before after (told-changed tell (done g c)) c.requires.placed c.requires.still (to g c) c.requires.role c.requires.recovering premise does list
+      (gives-live given m c.requires.stands.placed None c.args.role c.args.slot (to g c)) room
+      (λ steady. makable (OpensFit world) world.scope given told c.args.role c.args.slot m n before after (told-changed tell (done g c)) c.requires.stands.placed c.requires.still (to g c) c.requires.role c.requires.recovering premise does list
       stands allowed full gone here steady more back) safe
 
 pub returns-clause-safe : goal.returns-clause-safe
@@ -168,7 +172,7 @@ returns-clause-given_back g c = λ whole tell world told room gone here unclean 
     (holder-left given n c.args.role c.args.slot moved.placed moved.unlost (ap holder whole))).steady
 
 pub update-lost-requires-clause-roles : goal.update-lost-requires-clause-roles
-update-lost-requires-clause-roles g c = let most = few (g.B.Bank.given c.args.bank.now) c.args.members.now c.requires.placed in omega (arith, most)
+update-lost-requires-clause-roles g c = let most = few (g.B.Bank.given c.args.bank.now) c.args.members.now c.requires.stands.placed in omega (arith, most)
 
 pub holders-held-requires-clause-few : goal.holders-held-requires-clause-few
-holders-held-requires-clause-few g c = let most = few (g.B.Bank.given c.args.bank.now) c.args.members.now c.requires.placed in omega (arith, most)
+holders-held-requires-clause-few g c = let most = few (g.B.Bank.given c.args.bank.now) c.args.members.now c.requires.stands.placed in omega (arith, most)

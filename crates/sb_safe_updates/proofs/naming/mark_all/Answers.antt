@@ -23,64 +23,14 @@ use Rattle.array_members.proofs.crash_safety_laws_ChangeSafe.{told-changed, rise
 use Rattle.array_members.proofs.crash_safety_laws_KeptSafe.{mark-safe, mark-named}
 use Rattle.sb_safe_updates.proofs.MarkEnds.{left-in-mark}
 use Rattle.sb_safe_updates.proofs.NamedAll.{marked-missing}
+use Rattle.sb_safe_updates.proofs.FrameLaws.{keeps-rest}
 use Rattle.sb_safe_updates.proofs.naming.mark_all.Goals as goal
 
 pub holders-held-requires-clause-small : goal.holders-held-requires-clause-small
-holders-held-requires-clause-small g c role slot held = (c.requires.placed.holders role slot held).small
-
-pub returns-clause-moved : goal.returns-clause-moved
-returns-clause-moved g c =
-    let did = c.mark-lost.ensures in
-    moved-less (g.B.Bank.given c.args.bank.now) c.mark-lost.new.members.lost c.args.members.now c.mark-lost.new.members did.less c.requires.placed
-    (subst (λ (b : Given). IsPlaced b c.mark-lost.new.members) did.given did.placed) did.unlost
-    (λ few. subst (λ (slots : List ℕ). length slots ≤ 32) (sym did.marked.spares) (few-planned c.args.members.now (marking c.args.members.now c.args.clean) c.mark-lost.new.members.lost))
-    (λ slot has. (spare-left c.args.members.now c.args.clean c.mark-lost.new.members.lost c.mark-lost.new.members.spares did.marked.spares slot has).0)
-    (λ slot has free. (spare-left c.args.members.now c.args.clean c.mark-lost.new.members.lost c.mark-lost.new.members.spares did.marked.spares slot has).1)
-
-pub returns-clause-grows : goal.returns-clause-grows
-returns-clause-grows g c = grows-marks c.mark-lost.ensures.marked.update.marks
+holders-held-requires-clause-small g c role slot held = (c.requires.stands.placed.holders role slot held).small
 
 pub returns-clause-others : goal.returns-clause-others
 returns-clause-others g c = λ told. others-updated (g.B.Bank.given c.args.bank.now) c.mark-lost.ensures.marked.update told
-
-pub returns-clause-failed : goal.returns-clause-failed
-returns-clause-failed g c =
-    let did = c.mark-lost.ensures in
-    since-failed c.args.members.now c.mark-lost.new.members c.without.result (g.B.Bank.faults_of c.args.bank.now) (g.B.Bank.faults_of c.mark-lost.new.bank)
-    (failed-marked c.args.members.now c.mark-lost.new.members (live_set c.args.members.now (marking c.args.members.now c.args.clean)) c.without.result
-    (g.B.Bank.faults_of c.args.bank.now) (g.B.Bank.faults_of c.mark-lost.new.bank) c.requires.unlost did.less did.losses
-    (λ slot has.
-    let below : slot < 32 = small slot has in
-    let parts = both (has_slot c.mark-lost.result slot) (not (has_slot c.holders-held.result slot)) (sym (c.without.ensures slot below) ∙ has) in
-    let lost = both (has_slot c.mark-lost.new.members.lost slot) (not (has_slot c.args.members.now.lost slot)) (sym (did.result slot) ∙ parts.0) in
-    (lost.0, flip (has_slot c.args.members.now.lost slot) lost.1)))
-    (λ slot has.
-    let below : slot < 32 = small slot has in
-    let parts = both (has_slot c.mark-lost.result slot) (not (has_slot c.holders-held.result slot)) (sym (c.without.ensures slot below) ∙ has) in
-    let lost = both (has_slot c.mark-lost.new.members.lost slot) (not (has_slot c.args.members.now.lost slot)) (sym (did.result slot) ∙ parts.0) in
-    told-were c.args.members.now (marking c.args.members.now c.args.clean) c.holders-held.result slot refl c.holders-held.ensures
-    (did.losses.live slot lost.0 (flip (has_slot c.args.members.now.lost slot) lost.1)) (flip (has_slot c.holders-held.result slot) parts.1))
-    (λ slot has. (spare-left c.args.members.now c.args.clean c.mark-lost.new.members.lost c.mark-lost.new.members.spares did.marked.spares slot has).0)
-    (λ slot has.
-    let free = c.requires.free slot has in
-    elim (free-told c.args.members.now c.holders-held.result c.mark-lost.new.members.lost c.mark-lost.result c.without.result slot free c.holders-held.ensures (did.result slot) (c.without.ensures slot free.room.small)) [
-      | inl kept ↦ inl (spare-stays c.args.members.now c.args.clean c.mark-lost.new.members.lost c.mark-lost.new.members.spares did.marked.spares slot free.room.small kept has)
-      | inr told ↦ inr told
-    ])
-  where
-    both : (a b : Bool) → (a && b) ≡ true → (a ≡ true) × (b ≡ true)
-    both true b e = (refl, e)
-    both false b e = absurd (cc)
-
-    flip : (b : Bool) → not b ≡ true → b ≡ false
-    flip true e = absurd (cc)
-    flip false e = refl
-
-    small : (slot : ℕ) → has_slot c.without.result slot ≡ true → slot < 32
-    small slot has = elim (cases_lt slot 32) [
-      | inl below ↦ below
-      | inr above ↦ absurd (let e = none_above c.without.result slot (omega arith) above in cc)
-    ]
 
 pub returns-clause-flushed : goal.returns-clause-flushed
 returns-clause-flushed g c = λ told flushed. holders-updated (g.B.Bank.given c.args.bank.now) (reading_of c.args.members.now) c.mark-lost.ensures.marked.update told flushed
@@ -95,13 +45,10 @@ returns-clause-named g c = λ tell world told room markable now left.
     mark-named (OpensFit world) world.scope (g.B.Bank.given c.args.bank.now) told c.args.clean c.args.members.now c.mark-lost.new.members (g.B.Bank.tape c.args.bank.now) (g.B.Bank.tape c.mark-lost.new.bank)
     (told-changed tell c.mark-lost.ensures.marked) room markable now left
 
-pub returns-clause-rise : goal.returns-clause-rise
-returns-clause-rise g c = risen-changed c.mark-lost.ensures.marked refl (λ s isnt. give_of-same 32 s)
-
 pub returns-clause-missing : goal.returns-clause-missing
 returns-clause-missing g c = λ live.
     let did = c.mark-lost.ensures in
-    marked-missing (g.B.Bank.given c.args.bank.now) c.args.clean c.args.members.now c.mark-lost.new.members c.requires.placed did.less c.check_entries.ensures
+    marked-missing (g.B.Bank.given c.args.bank.now) c.args.clean c.args.members.now c.mark-lost.new.members c.requires.stands.placed did.less c.check_entries.ensures
     (did.marked.named (left-in-mark c.args.clean c.args.members.now c.mark-lost.new.members did.less did.marked.spares live))
 
 pub returns-clause-data : goal.returns-clause-data
@@ -109,8 +56,54 @@ returns-clause-data g c =
     each_mark-map (AreDataKept (disk (g.B.Bank.given c.args.bank.now).start (g.B.Bank.tape c.args.bank.now))) (λ told e at. at.touched.elsewhere) c.mark-lost.ensures.marked.update.marks
 
 pub holders-held-requires-clause-few : goal.holders-held-requires-clause-few
-holders-held-requires-clause-few g c = let most = few (g.B.Bank.given c.args.bank.now) c.args.members.now c.requires.placed in omega (arith, most)
+holders-held-requires-clause-few g c = let most = few (g.B.Bank.given c.args.bank.now) c.args.members.now c.requires.stands.placed in omega (arith, most)
 
 pub returns-clause-rest : goal.returns-clause-rest
 returns-clause-rest g c = λ tell. rest-touched c.args.members.now c.args.clean (disk (g.B.Bank.given c.args.bank.now).start (g.B.Bank.tape c.args.bank.now)) (disk (g.B.Bank.given c.args.bank.now).start (g.B.Bank.tape c.mark-lost.new.bank))
     (c.mark-lost.ensures.marked.update.end tell).touched
+
+pub returns-clause-keeps : goal.returns-clause-keeps
+returns-clause-keeps g c =
+    let did = c.mark-lost.ensures in
+    keeps-rest (record { same = did.given; grows = grows-marks c.mark-lost.ensures.marked.update.marks; counts = did.counts })
+    (moved-less (g.B.Bank.given c.args.bank.now) c.mark-lost.new.members.lost c.args.members.now c.mark-lost.new.members did.less c.requires.stands.placed
+    (subst (λ (b : Given). IsPlaced b c.mark-lost.new.members) did.given did.placed) did.unlost
+    (λ few. subst (λ (slots : List ℕ). length slots ≤ 32) (sym did.marked.spares) (few-planned c.args.members.now (marking c.args.members.now c.args.clean) c.mark-lost.new.members.lost))
+    (λ slot has. (spare-left c.args.members.now c.args.clean c.mark-lost.new.members.lost c.mark-lost.new.members.spares did.marked.spares slot has).0)
+    (λ slot has free. (spare-left c.args.members.now c.args.clean c.mark-lost.new.members.lost c.mark-lost.new.members.spares did.marked.spares slot has).1))
+    (since-failed c.args.members.now c.mark-lost.new.members c.without.result (g.B.Bank.faults_of c.args.bank.now) (g.B.Bank.faults_of c.mark-lost.new.bank)
+    (failed-marked c.args.members.now c.mark-lost.new.members (live_set c.args.members.now (marking c.args.members.now c.args.clean)) c.without.result
+    (g.B.Bank.faults_of c.args.bank.now) (g.B.Bank.faults_of c.mark-lost.new.bank) c.requires.stands.unlost did.less did.losses
+    (λ slot has.
+    let below : slot < 32 = small slot has in
+    let parts = both (has_slot c.mark-lost.result slot) (not (has_slot c.holders-held.result slot)) (sym (c.without.ensures slot below) ∙ has) in
+    let lost = both (has_slot c.mark-lost.new.members.lost slot) (not (has_slot c.args.members.now.lost slot)) (sym (did.result slot) ∙ parts.0) in
+    (lost.0, flip (has_slot c.args.members.now.lost slot) lost.1)))
+    (λ slot has.
+    let below : slot < 32 = small slot has in
+    let parts = both (has_slot c.mark-lost.result slot) (not (has_slot c.holders-held.result slot)) (sym (c.without.ensures slot below) ∙ has) in
+    let lost = both (has_slot c.mark-lost.new.members.lost slot) (not (has_slot c.args.members.now.lost slot)) (sym (did.result slot) ∙ parts.0) in
+    told-were c.args.members.now (marking c.args.members.now c.args.clean) c.holders-held.result slot refl c.holders-held.ensures
+    (did.losses.live slot lost.0 (flip (has_slot c.args.members.now.lost slot) lost.1)) (flip (has_slot c.holders-held.result slot) parts.1))
+    (λ slot has. (spare-left c.args.members.now c.args.clean c.mark-lost.new.members.lost c.mark-lost.new.members.spares did.marked.spares slot has).0)
+    (λ slot has.
+    let free = c.requires.stands.free slot has in
+    elim (free-told c.args.members.now c.holders-held.result c.mark-lost.new.members.lost c.mark-lost.result c.without.result slot free c.holders-held.ensures (did.result slot) (c.without.ensures slot free.room.small)) [
+      | inl kept ↦ inl (spare-stays c.args.members.now c.args.clean c.mark-lost.new.members.lost c.mark-lost.new.members.spares did.marked.spares slot free.room.small kept has)
+      | inr told ↦ inr told
+    ]))
+    (risen-changed did.marked refl (λ s isnt. give_of-same 32 s)) (returns-clause-rest g c)
+  where
+    both : (a b : Bool) → (a && b) ≡ true → (a ≡ true) × (b ≡ true)
+    both true b e = (refl, e)
+    both false b e = absurd (cc)
+
+    flip : (b : Bool) → not b ≡ true → b ≡ false
+    flip true e = absurd (cc)
+    flip false e = refl
+
+    small : (slot : ℕ) → has_slot c.without.result slot ≡ true → slot < 32
+    small slot has = elim (cases_lt slot 32) [
+      | inl below ↦ below
+      | inr above ↦ absurd (let e = none_above c.without.result slot (omega arith) above in cc)
+    ]

@@ -14,8 +14,7 @@ use Rattle.sb_safe_updates.proofs.RolesNamed.{unnamed-named}
 use Rattle.array_members.proofs.MarkedSafe.{same-markable}
 use Rattle.array_members.proofs.SafeStretch.{safe-none}
 use Rattle.array_members.proofs.LackingWrites.{marks-here}
-use Rattle.array_members.proofs.MovedLaws.{moved-same, grows-none}
-use Rattle.array_members.proofs.LackingLaws.{since-same}
+use Rattle.sb_safe_updates.proofs.FrameLaws.{keeps-none}
 use Rattle.sb_safe_updates.proofs.naming.record_missing.Goals as goal
 
 pub returns-then-not-has_unnamed-clause-safe : goal.returns-then-not-has_unnamed-clause-safe
@@ -24,20 +23,20 @@ returns-then-not-has_unnamed-clause-safe g c = λ tell world told room gone uncl
 
 pub returns-then-not-has_unnamed-clause-named : goal.returns-then-not-has_unnamed-clause-named
 returns-then-not-has_unnamed-clause-named g c = λ tell world told room gone unclean now left.
-    unnamed-named c.args.members.now (disk (g.B.Bank.given c.args.bank.now).start (g.B.Bank.tape c.args.bank.now)) c.requires.placed
+    unnamed-named c.args.members.now (disk (g.B.Bank.given c.args.bank.now).start (g.B.Bank.tape c.args.bank.now)) c.requires.stands.placed
     (c.has_unnamed.ensures.none c.if-not-has_unnamed.true) (left-steady left now)
 
 pub returns-clause-safe : goal.returns-clause-safe
 returns-clause-safe g c = λ tell world told room gone unclean now.
     c.mark_all.ensures.safe tell world told room
     (same-markable (OpensFit world) world.scope (g.B.Bank.given c.args.bank.now) told c.is_clean-clean.result c.args.members.now c.mark_all.new.members
-    (disk (g.B.Bank.given c.args.bank.now).start (g.B.Bank.tape c.args.bank.now)) c.requires.placed c.requires.unlost c.is_clean-clean.ensures gone unclean now) now
+    (disk (g.B.Bank.given c.args.bank.now).start (g.B.Bank.tape c.args.bank.now)) c.requires.stands.placed c.requires.stands.unlost c.is_clean-clean.ensures gone unclean now) now
 
 pub returns-clause-named : goal.returns-clause-named
 returns-clause-named g c = λ tell world told room gone unclean now left.
     c.mark_all.ensures.named tell world told room
     (same-markable (OpensFit world) world.scope (g.B.Bank.given c.args.bank.now) told c.is_clean-clean.result c.args.members.now c.mark_all.new.members
-    (disk (g.B.Bank.given c.args.bank.now).start (g.B.Bank.tape c.args.bank.now)) c.requires.placed c.requires.unlost c.is_clean-clean.ensures gone unclean now) now left
+    (disk (g.B.Bank.given c.args.bank.now).start (g.B.Bank.tape c.args.bank.now)) c.requires.stands.placed c.requires.stands.unlost c.is_clean-clean.ensures gone unclean now) now left
 
 pub returns-then-not-has_unnamed-clause-missing : goal.returns-then-not-has_unnamed-clause-missing
 returns-then-not-has_unnamed-clause-missing g c = λ live role lt vacant device below entry.
@@ -48,7 +47,7 @@ returns-then-not-has_unnamed-clause-data g c =
     marks-here {P = AreDataKept (disk (g.B.Bank.given c.args.bank.now).start (g.B.Bank.tape c.args.bank.now))} g.B.Bank.tells (g.B.Bank.given c.args.bank.now).start (g.B.Bank.tape c.args.bank.now) (λ s k other. inl refl)
 
 pub has_unnamed-requires-clause-few : goal.has_unnamed-requires-clause-few
-has_unnamed-requires-clause-few g c = let most = few (g.B.Bank.given c.args.bank.now) c.args.members.now c.requires.placed in omega (arith, most)
+has_unnamed-requires-clause-few g c = let most = few (g.B.Bank.given c.args.bank.now) c.args.members.now c.requires.stands.placed in omega (arith, most)
 
 -- where all roles are whole, none is vacant
 none-vacant : {P : Type 0} (m : Members) → AreWhole m → (role : ℕ) × (role < role_count m.newest) × (is_unassigned (reading_of m) role ≡ true) × IsNamed m.newest role → P
@@ -63,27 +62,11 @@ returns-clause-tape g c = λ whole tell. none-vacant c.args.members.now whole (c
 pub returns-then-not-has_unnamed-clause-rest : goal.returns-then-not-has_unnamed-clause-rest
 returns-then-not-has_unnamed-clause-rest g c = λ tell s k v why may. may
 
-pub mark_all-requires-clause-slots : goal.mark_all-requires-clause-slots
-mark_all-requires-clause-slots g c = c.requires.slots
+pub mark_all-requires : goal.mark_all-requires
+mark_all-requires g c = record { stands = c.requires.stands }
 
-pub mark_all-requires-clause-placed : goal.mark_all-requires-clause-placed
-mark_all-requires-clause-placed g c = c.requires.placed
-
-pub mark_all-requires-clause-unlost : goal.mark_all-requires-clause-unlost
-mark_all-requires-clause-unlost g c = c.requires.unlost
-
-pub mark_all-requires-clause-free : goal.mark_all-requires-clause-free
-mark_all-requires-clause-free g c = c.requires.free
-
-pub returns-then-not-has_unnamed-clause-moved : goal.returns-then-not-has_unnamed-clause-moved
-returns-then-not-has_unnamed-clause-moved g c =
-    moved-same (g.B.Bank.given c.args.bank.now) (g.B.Bank.given c.args.bank.now) c.args.members.now c.args.members.now refl refl c.requires.placed c.requires.unlost
-
-pub returns-then-not-has_unnamed-clause-failed : goal.returns-then-not-has_unnamed-clause-failed
-returns-then-not-has_unnamed-clause-failed g c = since-same c.args.members.now (g.B.Bank.faults_of c.args.bank.now) (g.B.Bank.faults_of c.args.bank.now)
-
-pub returns-then-not-has_unnamed-clause-grows : goal.returns-then-not-has_unnamed-clause-grows
-returns-then-not-has_unnamed-clause-grows g c = grows-none (λ told. refl)
+pub returns-then-not-has_unnamed-clause-keeps : goal.returns-then-not-has_unnamed-clause-keeps
+returns-then-not-has_unnamed-clause-keeps g c = keeps-none c.args.bank.now c.args.members.now c.requires.stands
 
 pub returns-then-not-has_unnamed-clause-others : goal.returns-then-not-has_unnamed-clause-others
 returns-then-not-has_unnamed-clause-others g c told s k other = refl
@@ -91,14 +74,8 @@ returns-then-not-has_unnamed-clause-others g c told s k other = refl
 pub returns-then-not-has_unnamed-clause-flushed : goal.returns-then-not-has_unnamed-clause-flushed
 returns-then-not-has_unnamed-clause-flushed g c told flushed = flushed
 
-pub returns-clause-moved : goal.returns-clause-moved
-returns-clause-moved g c = c.mark_all.ensures.moved
-
-pub returns-clause-failed : goal.returns-clause-failed
-returns-clause-failed g c = c.mark_all.ensures.failed
-
-pub returns-clause-grows : goal.returns-clause-grows
-returns-clause-grows g c = c.mark_all.ensures.grows
+pub returns-clause-keeps : goal.returns-clause-keeps
+returns-clause-keeps g c = c.mark_all.ensures.keeps
 
 pub returns-clause-others : goal.returns-clause-others
 returns-clause-others g c = c.mark_all.ensures.others
@@ -114,15 +91,6 @@ returns-clause-rest g c = c.mark_all.ensures.rest
 
 pub returns-clause-data : goal.returns-clause-data
 returns-clause-data g c = c.mark_all.ensures.data
-
-pub returns-clause-rise : goal.returns-clause-rise
-returns-clause-rise g c = c.mark_all.ensures.rise
-
-pub returns-clause-given : goal.returns-clause-given
-returns-clause-given g c = c.mark_all.ensures.given
-
-pub returns-clause-counts : goal.returns-clause-counts
-returns-clause-counts g c = c.mark_all.ensures.counts
 
 pub returns-clause-clean : goal.returns-clause-clean
 returns-clause-clean g c = c.mark_all.ensures.clean ∙ c.is_clean-clean.ensures

@@ -1,4 +1,4 @@
-use Rattle.std.proofs.Common.{◌≡◌, inl, ◌||◌, Bool, true, false, refl, sym, ◌∙◌, ap, subst, ◌≤◌, le_trans}
+use Rattle.std.proofs.Common.{◌≡◌, inl, ◌||◌, Bool, true, false, refl, sym, ◌∙◌, ap, subst}
 use Rattle.std.specs.Prelude.{Option, Some, None, MatchOption, is_some, ⊤}
 use Rattle.sb_update.specs.raid_types_the_Refusal.{Refusal}
 use Rattle.sb_update.specs.bank_Given.{Given}
@@ -6,45 +6,31 @@ use Rattle.sb_update.specs.bank_Tape.{disk}
 use Rattle.array_members.specs.history_Sound.{OpensFit}
 use Rattle.array_members.specs.crash_views_Regions.{DoWithout}
 use Rattle.array_members.specs.Lacking.{AreTooMany}
-use Rattle.array_members.specs.Rebuilding.{AreSparesFree}
 use Rattle.array_members.specs.crash_safety_laws_Kinds.{IsMarkable}
 use Rattle.array_members.specs.crash_safety_laws_Steady.{IsNamedOver, IsSafeNow, settled_ledger}
 use Rattle.array_members.specs.crash_views_Views.{Ledger}
 use Rattle.array_members.proofs.HeldRows.{without-before}
 use Rattle.sb_safe_updates.proofs.Under.{under-moved, rows-under-moved}
-use Rattle.array_members.specs.Under.{RowsStandUnder, IsRestKept}
-use Rattle.sb_safe_updates.proofs.Unused.{rest-unused, unused-then}
+use Rattle.array_members.specs.Under.{RowsStandUnder}
 use Rattle.array_members.proofs.LiveLeft.{without-left, holder-left}
 use Rattle.array_members.proofs.MarkedSafe.{settled-markable}
-use Rattle.array_members.proofs.crash_safety_laws_Risen.{risen-then, room-first, room-then}
+use Rattle.array_members.proofs.crash_safety_laws_Risen.{room-first, room-then}
 use Rattle.array_members.proofs.SafeStretch.{gone-before, safe-then, allowed-later, grows-longer, over-at, keeps-from}
 use Rattle.sb_safe_updates.proofs.SettledSafe.{settled-safe, clean-settled}
 use Rattle.sb_update.specs.sb_specs_the_Members.{Members}
 use Rattle.array_members.specs.stripe_row_Rows.{reading_of, present}
-use Rattle.array_members.proofs.MovedLaws.{moved-then, moved-from, grows-then}
-use Rattle.array_members.proofs.LackingLaws.{since-then, in-either, holders-fewer, holders-at}
-use Rattle.array_members.specs.Placed.{IsPlaced}
+use Rattle.array_members.proofs.MovedLaws.{moved-from}
+use Rattle.array_members.proofs.LackingLaws.{in-either, holders-fewer, holders-at}
 use Rattle.array_members.specs.crash_safety_laws_Marking.{AreOthersPresent}
+use Rattle.sb_safe_updates.proofs.FrameLaws.{keeps-then, stands-on}
 use Rattle.sb_safe_updates.proofs.settles.flush_and_mark.Goals as goal
 
-pub mark_all-marked-requires-clause-free : goal.mark_all-marked-requires-clause-free
-mark_all-marked-requires-clause-free g c =
-    let did = c.flush_naming-named.ensures in
-    subst (λ (b : Given). AreSparesFree b c.flush_naming-named.new.members) (sym did.given) (did.moved.free c.requires.free)
+pub mark_all-marked-requires : goal.mark_all-marked-requires
+mark_all-marked-requires g c = record { stands = stands-on c.flush_naming-named.ensures.keeps c.requires.stands }
 
-pub returns-clause-moved : goal.returns-clause-moved
-returns-clause-moved g c =
-    let m1 = c.flush_naming-named.new.members in
-    let did1 = c.flush_naming-named.ensures in
-    moved-then (g.B.Bank.given c.args.bank.now) c.args.members.now m1 c.mark_all-marked.new.members did1.moved
-    (moved-from (g.B.Bank.given c.args.bank.now) (g.B.Bank.given c.flush_naming-named.new.bank) m1 m1 c.mark_all-marked.new.members did1.given refl c.mark_all-marked.ensures.moved)
-
-pub returns-clause-failed : goal.returns-clause-failed
-returns-clause-failed g c =
-    let s = c.flush_naming-named.result in
-    let t = c.mark_all-marked.result in
-    since-then c.args.members.now c.flush_naming-named.new.members c.mark_all-marked.new.members s t _ (g.B.Bank.faults_of c.args.bank.now) (g.B.Bank.faults_of c.flush_naming-named.new.bank)
-    (g.B.Bank.faults_of c.mark_all-marked.new.bank) c.flush_naming-named.ensures.counts c.mark_all-marked.ensures.counts c.flush_naming-named.ensures.failed c.mark_all-marked.ensures.failed (in-either s t)
+pub returns-clause-keeps : goal.returns-clause-keeps
+returns-clause-keeps g c =
+    keeps-then c.flush_naming-named.ensures.keeps c.mark_all-marked.ensures.keeps (in-either c.flush_naming-named.result c.mark_all-marked.result)
 
 pub returns-clause-flushed : goal.returns-clause-flushed
 returns-clause-flushed g c = λ told.
@@ -55,25 +41,11 @@ returns-clause-flushed g c = λ told.
     let tape2 = g.B.Bank.tape c.mark_all-marked.new.bank in
     let did1 = c.flush_naming-named.ensures in
     let did2 = c.mark_all-marked.ensures in
-    holders-fewer given m1 c.mark_all-marked.new.members tape2 did2.moved.held
-    (holders-at (reading_of m1) given1 given tape2 (sym did1.given) (did2.flushed told (holders-at (reading_of m1) given given1 tape1 did1.given (did1.flushed told))))
+    holders-fewer given m1 c.mark_all-marked.new.members tape2 did2.keeps.moved.held
+    (holders-at (reading_of m1) given1 given tape2 (sym did1.keeps.bank.same) (did2.flushed told (holders-at (reading_of m1) given given1 tape1 did1.keeps.bank.same (did1.flushed told))))
 
-pub returns-then-is_some-unsynced-clause-unused : goal.returns-then-is_some-unsynced-clause-unused
-returns-then-is_some-unsynced-clause-unused g c = λ told.
-    rest-unused c.args.members.now (disk (g.B.Bank.given c.args.bank.now).start (g.B.Bank.tape c.args.bank.now)) (disk (g.B.Bank.given c.args.bank.now).start (g.B.Bank.tape c.flush_naming-named.new.bank)) (c.flush_naming-named.ensures.rest told)
-
-pub returns-clause-unused : goal.returns-clause-unused
-returns-clause-unused g c = λ told.
-    let given = g.B.Bank.given c.args.bank.now in
-    let m1 = c.flush_naming-named.new.members in
-    let tape0 = g.B.Bank.tape c.args.bank.now in
-    let tape1 = g.B.Bank.tape c.flush_naming-named.new.bank in
-    let tape2 = g.B.Bank.tape c.mark_all-marked.new.bank in
-    let did1 = c.flush_naming-named.ensures in
-    let rest : IsRestKept m1 (disk given.start tape1) (disk given.start tape2) =
-    subst (λ (b : Given). IsRestKept m1 (disk b.start tape1) (disk b.start tape2)) did1.given (c.mark_all-marked.ensures.rest told) in
-    unused-then given c.args.members.now m1 (disk given.start tape0) (disk given.start tape1) (disk given.start tape2) did1.moved
-    (rest-unused c.args.members.now (disk given.start tape0) (disk given.start tape1) (did1.rest told)) (rest-unused m1 (disk given.start tape1) (disk given.start tape2) rest)
+pub returns-then-is_some-unsynced-clause-keeps : goal.returns-then-is_some-unsynced-clause-keeps
+returns-then-is_some-unsynced-clause-keeps g c = c.flush_naming-named.ensures.keeps
 
 -- ---- where slots are lost
 
@@ -125,19 +97,16 @@ returns-then-is_some-unsynced-clause-settled g c = λ none tell world told room 
     let tape1 = g.B.Bank.tape c.flush_naming-named.new.bank in
     let did1 = c.flush_naming-named.ensures in
     let does1 = without-none m1 c.too_many-refusal.result c.too_many-refusal.ensures none in
-    let does = without-before given m m1 did1.moved does1 in
-    let moves = under-moved world.scope given m m1 (present given tape0) (present given tape1) (disk given.start tape0) (disk given.start tape1) list did1.moved c.requires.placed (did1.others tell) (did1.rest tell) now in
-    settled-safe (OpensFit world) world.scope given told c.args.unsynced m1 tape1 list did1.moved.placed (did1.flushed tell) (moves (stands does))
+    let does = without-before given m m1 did1.keeps.moved does1 in
+    let moves = under-moved world.scope given m m1 (present given tape0) (present given tape1) (disk given.start tape0) (disk given.start tape1) list did1.keeps.moved c.requires.stands.placed (did1.others tell) (did1.rest tell) now in
+    settled-safe (OpensFit world) world.scope given told c.args.unsynced m1 tape1 list did1.keeps.moved.placed (did1.flushed tell) (moves (stands does))
     (λ is. still c.is_some.result c.args.unsynced c.is_clean.result c.if-is_some-unsynced.true (c.is_some.ensures ∙ ap (λ (o : Option Refusal). is_some o) none) (c.is_clean.ensures ∙ is))
-    (λ clean does_without premise. rows-under-moved world.scope given m m1 (present given tape0) (present given tape1) (disk given.start tape0) (disk given.start tape1) list did1.moved c.requires.placed (did1.others tell) (did1.rest tell)
+    (λ clean does_without premise. rows-under-moved world.scope given m m1 (present given tape0) (present given tape1) (disk given.start tape0) (disk given.start tape1) list did1.keeps.moved c.requires.stands.placed (did1.others tell) (did1.rest tell)
     (rows (synced c.args.unsynced (λ is. sym (did1.clean ∙ dirty does is) ∙ clean)) does premise))
-    (did1.named tell world told room gone unclean now (without-left given m1 did1.moved.placed did1.moved.unlost does1))
+    (did1.named tell world told room gone unclean now (without-left given m1 did1.keeps.moved.placed did1.keeps.moved.unlost does1))
 
 pub unmarked-requires-clause-small : goal.unmarked-requires-clause-small
-unmarked-requires-clause-small g c role slot held = (c.mark_all-marked.ensures.moved.placed.holders role slot held).small
-
-pub returns-clause-rise : goal.returns-clause-rise
-returns-clause-rise g c = risen-then c.flush_naming-named.ensures.rise c.mark_all-marked.ensures.rise
+unmarked-requires-clause-small g c role slot held = (c.mark_all-marked.ensures.keeps.moved.placed.holders role slot held).small
 
 pub returns-clause-safe : goal.returns-clause-safe
 returns-clause-safe g c = λ tell world told room gone unclean list stands rows allowed now.
@@ -151,17 +120,17 @@ returns-clause-safe g c = λ tell world told room gone unclean list stands rows 
     let tape2 = g.B.Bank.tape c.mark_all-marked.new.bank in
     let did1 = c.flush_naming-named.ensures in
     let did2 = c.mark_all-marked.ensures in
-    let moved2 = moved-from given given1 m1 m1 m2 did1.given refl did2.moved in
-    let kept = did1.safe tell world told (room-first m tape0 tape1 tape2 room (grows-longer did2.grows tell)) (gone-before given m1 m2 did1.moved.placed moved2 told gone) unclean now in
+    let moved2 = moved-from given given1 m1 m1 m2 did1.keeps.bank.same refl did2.keeps.moved in
+    let kept = did1.safe tell world told (room-first m tape0 tape1 tape2 room (grows-longer did2.keeps.bank.grows tell)) (gone-before given m1 m2 did1.keeps.moved.placed moved2 told gone) unclean now in
     let markable : IsMarkable (OpensFit world) world.scope true told m1 m2 (disk given.start tape1) =
-    settled-markable (OpensFit world) world.scope given told m1 m2 tape1 list did1.moved.placed (did1.flushed tell) gone (allowed-later given m m1 did1.moved told.values list allowed)
-    (λ does premise. rows-under-moved world.scope given m m1 (present given tape0) (present given tape1) (disk given.start tape0) (disk given.start tape1) list did1.moved c.requires.placed (did1.others tell) (did1.rest tell)
-    (rows (second c.is_some.result c.args.unsynced c.is_clean.result c.if-is_some-unsynced.false) (without-before given m m1 did1.moved does) premise)) in
+    settled-markable (OpensFit world) world.scope given told m1 m2 tape1 list did1.keeps.moved.placed (did1.flushed tell) gone (allowed-later given m m1 did1.keeps.moved told.values list allowed)
+    (λ does premise. rows-under-moved world.scope given m m1 (present given tape0) (present given tape1) (disk given.start tape0) (disk given.start tape1) list did1.keeps.moved c.requires.stands.placed (did1.others tell) (did1.rest tell)
+    (rows (second c.is_some.result c.args.unsynced c.is_clean.result c.if-is_some-unsynced.false) (without-before given m m1 did1.keeps.moved does) premise)) in
     safe-then (OpensFit world) world.scope given told m1 m2 tape0 tape1 tape2 kept
-    (keeps-from world given given1 told m2 tape1 tape2 did1.given
-    (did2.safe tell world told (room-then tape2 tell room did1.rise)
-    (subst (λ (b : Given). IsMarkable (OpensFit world) world.scope true told m1 m2 (disk b.start tape1)) (sym did1.given) markable)
-    (over-at world given given1 told m1 tape1 did1.given kept.next)))
+    (keeps-from world given given1 told m2 tape1 tape2 did1.keeps.bank.same
+    (did2.safe tell world told (room-then tape2 tell room did1.keeps.rise)
+    (subst (λ (b : Given). IsMarkable (OpensFit world) world.scope true told m1 m2 (disk b.start tape1)) (sym did1.keeps.bank.same) markable)
+    (over-at world given given1 told m1 tape1 did1.keeps.bank.same kept.next)))
 
 pub returns-clause-settled : goal.returns-clause-settled
 returns-clause-settled g c = λ none tell world told room gone unclean dirty list stands rows allowed now.
@@ -175,48 +144,30 @@ returns-clause-settled g c = λ none tell world told room gone unclean dirty lis
     let tape2 = g.B.Bank.tape c.mark_all-marked.new.bank in
     let did1 = c.flush_naming-named.ensures in
     let did2 = c.mark_all-marked.ensures in
-    let moved2 = moved-from given given1 m1 m1 m2 did1.given refl did2.moved in
-    let room1 = room-first m tape0 tape1 tape2 room (grows-longer did2.grows tell) in
-    let gone1 = gone-before given m1 m2 did1.moved.placed moved2 told gone in
+    let moved2 = moved-from given given1 m1 m1 m2 did1.keeps.bank.same refl did2.keeps.moved in
+    let room1 = room-first m tape0 tape1 tape2 room (grows-longer did2.keeps.bank.grows tell) in
+    let gone1 = gone-before given m1 m2 did1.keeps.moved.placed moved2 told gone in
     let does1 = without-none m1 c.too_many-refusal.result c.too_many-refusal.ensures (none-there c.too_many-refusal.result c.is_some.result c.args.unsynced c.is_clean.result c.is_some.ensures c.if-is_some-unsynced.false) in
-    let does = without-before given m m1 did1.moved does1 in
-    let moves = under-moved world.scope given m m1 (present given tape0) (present given tape1) (disk given.start tape0) (disk given.start tape1) list did1.moved c.requires.placed (did1.others tell) (did1.rest tell) now in
+    let does = without-before given m m1 did1.keeps.moved does1 in
+    let moves = under-moved world.scope given m m1 (present given tape0) (present given tape1) (disk given.start tape0) (disk given.start tape1) list did1.keeps.moved c.requires.stands.placed (did1.others tell) (did1.rest tell) now in
     let rows1 : OpensFit world → RowsStandUnder world.scope m1 (present given tape1) (disk given.start tape1) list =
-    λ premise. rows-under-moved world.scope given m m1 (present given tape0) (present given tape1) (disk given.start tape0) (disk given.start tape1) list did1.moved c.requires.placed (did1.others tell) (did1.rest tell)
+    λ premise. rows-under-moved world.scope given m m1 (present given tape0) (present given tape1) (disk given.start tape0) (disk given.start tape1) list did1.keeps.moved c.requires.stands.placed (did1.others tell) (did1.rest tell)
     (rows (second c.is_some.result c.args.unsynced c.is_clean.result c.if-is_some-unsynced.false) does premise) in
     let alone : Ledger = settled_ledger true list told in
     let safe1 : IsSafeNow (OpensFit world) world.scope given alone m1 (disk given.start tape1) =
-    settled-safe (OpensFit world) world.scope given told true m1 tape1 list did1.moved.placed (did1.flushed tell) (moves (stands does)) (λ is. refl) (λ clean does_without premise. rows1 premise)
-    (did1.named tell world told room1 gone1 unclean now (without-left given m1 did1.moved.placed did1.moved.unlost does1)) in
+    settled-safe (OpensFit world) world.scope given told true m1 tape1 list did1.keeps.moved.placed (did1.flushed tell) (moves (stands does)) (λ is. refl) (λ clean does_without premise. rows1 premise)
+    (did1.named tell world told room1 gone1 unclean now (without-left given m1 did1.keeps.moved.placed did1.keeps.moved.unlost does1)) in
     let markable : IsMarkable (OpensFit world) world.scope true alone m1 m2 (disk given.start tape1) =
-    settled-markable (OpensFit world) world.scope given alone m1 m2 tape1 list did1.moved.placed (did1.flushed tell) gone (λ x lt. inl refl) (λ does_without premise. rows1 premise) in
+    settled-markable (OpensFit world) world.scope given alone m1 m2 tape1 list did1.keeps.moved.placed (did1.flushed tell) gone (λ x lt. inl refl) (λ does_without premise. rows1 premise) in
     let held = c.unmarked.ensures.left none in
     clean-settled told true c.args.unsynced list did2.clean
-    (subst (λ (b : Given). IsNamedOver world b alone m2 tape2) did1.given
-    (did2.named tell world alone (room-then tape2 tell room did1.rise)
-    (subst (λ (b : Given). IsMarkable (OpensFit world) world.scope true alone m1 m2 (disk b.start tape1)) (sym did1.given) markable)
-    (over-at world given given1 alone m1 tape1 did1.given safe1) (holder-left given m2 held.0 held.1 moved2.placed moved2.unlost held.2)))
+    (subst (λ (b : Given). IsNamedOver world b alone m2 tape2) did1.keeps.bank.same
+    (did2.named tell world alone (room-then tape2 tell room did1.keeps.rise)
+    (subst (λ (b : Given). IsMarkable (OpensFit world) world.scope true alone m1 m2 (disk b.start tape1)) (sym did1.keeps.bank.same) markable)
+    (over-at world given given1 alone m1 tape1 did1.keeps.bank.same safe1) (holder-left given m2 held.0 held.1 moved2.placed moved2.unlost held.2)))
 
-pub flush_naming-named-requires-clause-slots : goal.flush_naming-named-requires-clause-slots
-flush_naming-named-requires-clause-slots g c = c.requires.slots
-
-pub flush_naming-named-requires-clause-placed : goal.flush_naming-named-requires-clause-placed
-flush_naming-named-requires-clause-placed g c = c.requires.placed
-
-pub flush_naming-named-requires-clause-unlost : goal.flush_naming-named-requires-clause-unlost
-flush_naming-named-requires-clause-unlost g c = c.requires.unlost
-
-pub flush_naming-named-requires-clause-free : goal.flush_naming-named-requires-clause-free
-flush_naming-named-requires-clause-free g c = c.requires.free
-
-pub returns-then-is_some-unsynced-clause-moved : goal.returns-then-is_some-unsynced-clause-moved
-returns-then-is_some-unsynced-clause-moved g c = c.flush_naming-named.ensures.moved
-
-pub returns-then-is_some-unsynced-clause-failed : goal.returns-then-is_some-unsynced-clause-failed
-returns-then-is_some-unsynced-clause-failed g c = c.flush_naming-named.ensures.failed
-
-pub returns-then-is_some-unsynced-clause-grows : goal.returns-then-is_some-unsynced-clause-grows
-returns-then-is_some-unsynced-clause-grows g c = c.flush_naming-named.ensures.grows
+pub flush_naming-named-requires : goal.flush_naming-named-requires
+flush_naming-named-requires g c = record { stands = c.requires.stands }
 
 pub returns-then-is_some-unsynced-clause-others : goal.returns-then-is_some-unsynced-clause-others
 returns-then-is_some-unsynced-clause-others g c = c.flush_naming-named.ensures.others
@@ -224,35 +175,8 @@ returns-then-is_some-unsynced-clause-others g c = c.flush_naming-named.ensures.o
 pub returns-then-is_some-unsynced-clause-flushed : goal.returns-then-is_some-unsynced-clause-flushed
 returns-then-is_some-unsynced-clause-flushed g c = c.flush_naming-named.ensures.flushed
 
-pub returns-then-is_some-unsynced-clause-rise : goal.returns-then-is_some-unsynced-clause-rise
-returns-then-is_some-unsynced-clause-rise g c = c.flush_naming-named.ensures.rise
-
-pub returns-then-is_some-unsynced-clause-given : goal.returns-then-is_some-unsynced-clause-given
-returns-then-is_some-unsynced-clause-given g c = c.flush_naming-named.ensures.given
-
-pub returns-then-is_some-unsynced-clause-counts : goal.returns-then-is_some-unsynced-clause-counts
-returns-then-is_some-unsynced-clause-counts g c = c.flush_naming-named.ensures.counts
-
 pub returns-then-is_some-unsynced-clause-stays : goal.returns-then-is_some-unsynced-clause-stays
 returns-then-is_some-unsynced-clause-stays g c unsynced = c.flush_naming-named.ensures.clean
-
-pub mark_all-marked-requires-clause-slots : goal.mark_all-marked-requires-clause-slots
-mark_all-marked-requires-clause-slots g c = subst (λ (b : Given). b.slots ≤ 32) (sym c.flush_naming-named.ensures.given) c.requires.slots
-
-pub mark_all-marked-requires-clause-placed : goal.mark_all-marked-requires-clause-placed
-mark_all-marked-requires-clause-placed g c = subst (λ (b : Given). IsPlaced b c.flush_naming-named.new.members) (sym c.flush_naming-named.ensures.given) c.flush_naming-named.ensures.moved.placed
-
-pub mark_all-marked-requires-clause-unlost : goal.mark_all-marked-requires-clause-unlost
-mark_all-marked-requires-clause-unlost g c = c.flush_naming-named.ensures.moved.unlost
-
-pub returns-clause-grows : goal.returns-clause-grows
-returns-clause-grows g c = grows-then c.flush_naming-named.ensures.grows c.mark_all-marked.ensures.grows
-
-pub returns-clause-given : goal.returns-clause-given
-returns-clause-given g c = c.mark_all-marked.ensures.given ∙ c.flush_naming-named.ensures.given
-
-pub returns-clause-counts : goal.returns-clause-counts
-returns-clause-counts g c s = le_trans (c.flush_naming-named.ensures.counts s) (c.mark_all-marked.ensures.counts s)
 
 pub returns-then-is_some-unsynced-clause-refused : goal.returns-then-is_some-unsynced-clause-refused
 returns-then-is_some-unsynced-clause-refused g c =
@@ -265,4 +189,4 @@ pub returns-clause-others : goal.returns-clause-others
 returns-clause-others g c told s k other =
     let tape1 = g.B.Bank.tape c.flush_naming-named.new.bank in
     let tape2 = g.B.Bank.tape c.mark_all-marked.new.bank in
-    subst (λ (b : Given). AreOthersPresent (present b tape1) (present b tape2)) c.flush_naming-named.ensures.given (c.mark_all-marked.ensures.others told) s k other ∙ c.flush_naming-named.ensures.others told s k other
+    subst (λ (b : Given). AreOthersPresent (present b tape1) (present b tape2)) c.flush_naming-named.ensures.keeps.bank.same (c.mark_all-marked.ensures.others told) s k other ∙ c.flush_naming-named.ensures.others told s k other

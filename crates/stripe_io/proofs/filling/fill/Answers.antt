@@ -10,26 +10,25 @@ use Rattle.sb_safe_updates.specs.stripe_list_Writing.{HasFull}
 use Rattle.sb_safe_updates.specs.history_Sound.{OpensFit}
 use Rattle.sb_safe_updates.specs.array_members_Moving.{IsMoved}
 use Rattle.sb_safe_updates.specs.array_members_Lacking.{IsOfStripe, DataStandsAmong, RowsStandAmong}
-use Rattle.sb_safe_updates.specs.array_members_Rebuilding.{AreSparesFree, IsFilledAmong}
-use Rattle.sb_safe_updates.proofs.array_members_MovedLaws.{moved-then, moved-same, grows-none, grows-then, moved-from}
-use Rattle.sb_safe_updates.proofs.array_members_LackingLaws.{since-same, since-then, in-either}
+use Rattle.sb_safe_updates.specs.array_members_Rebuilding.{IsFilledAmong}
+use Rattle.sb_safe_updates.proofs.array_members_MovedLaws.{moved-from}
+use Rattle.sb_safe_updates.proofs.array_members_LackingLaws.{in-either}
 use Rattle.sb_safe_updates.proofs.array_members_LackingLists.{none-of}
-use Rattle.sb_safe_updates.proofs.crash_safety_laws_Risen.{risen-none, risen-then}
 use Rattle.sb_safe_updates.proofs.array_members_SafeStretch.{safe-none}
 use Rattle.sb_safe_updates.proofs.array_members_SyncedParts.{IsInParts, valid-in, part-within, part-touches, safe-part}
 use Rattle.stripe_io.proofs.FillingLaws.{filled-none, filled-then}
 use Rattle.sb_safe_updates.proofs.array_members_FilledParts.{touched-in_parts, touched-late, parts-longer, parts-of_stripe, stripe-in_parts, found-in, none-found, recovered-alone, recovered-rows, filled-before, data-filled, row-filled, full-kept}
 use Rattle.stripe_io.proofs.CallLaws.{some-none}
-use Rattle.sb_safe_updates.specs.array_members_Placed.{IsPlaced}
+use Rattle.sb_safe_updates.proofs.FrameLaws.{members-none, members-stand-on, members-then}
 use Rattle.stripe_io.proofs.filling.fill.Goals as goal
 
 pub target_of-target-requires-clause-few : goal.target_of-target-requires-clause-few
 target_of-target-requires-clause-few g c =
-    (c.requires.placed.holders c.args.role c.args.slot (ap holder c.requires.recovering)).small
+    (c.requires.stands.placed.holders c.args.role c.args.slot (ap holder c.requires.recovering)).small
 
 pub overflow_mul-first : goal.overflow_mul-first
 overflow_mul-first g c =
-    let fits = part-within (g.B.Bank.given c.args.bank.now) c.args.members.now c.requires.placed c.args.shape.now (inl c.requires.shape) c.args.stripe (subst (λ (s : Shape). c.args.stripe < c.args.members.now.newest.size / s.chunk) (sym c.requires.shape) c.requires.stripe) c.list_length.result c.list_length.ensures 0 0
+    let fits = part-within (g.B.Bank.given c.args.bank.now) c.args.members.now c.requires.stands.placed c.args.shape.now (inl c.requires.shape) c.args.stripe (subst (λ (s : Shape). c.args.stripe < c.args.members.now.newest.size / s.chunk) (sym c.requires.shape) c.requires.stripe) c.list_length.result c.list_length.ensures 0 0
     (omega arith) in
     omega (arith, fits.0, fits.1)
 
@@ -40,33 +39,24 @@ loop-done-init g c =
     let tape0 = g.B.Bank.tape c.args.bank.now in
     let f0 = g.B.Bank.faults_of c.args.bank.now in
     record {
-      moved = moved-same given given m m refl refl c.requires.placed c.requires.unlost;
-      failed = since-same m f0 f0;
-      grows = grows-none (λ told. refl);
+      keeps = members-none c.args.bank.now c.args.members.now c.requires.stands;
       clean = refl;
       within = omega arith;
       full = λ told list stands among recovers row at high. absurd (let low = at.0 in let end = at.1 in omega (arith, low, end));
       others = λ told. filled-none m c.args.role c.args.slot _ (present given tape0);
-      rise = risen-none m tape0 tape0 (λ told. omega arith);
       safe = λ told world ledger room gone unclean safe. safe-none (OpensFit world) world.scope given ledger m tape0 safe;
-      given = refl;
-      counts = λ s. omega arith;
       rows = omega arith;
       buffer = refl;
     }
 
 pub overflow_add-first : goal.overflow_add-first
 overflow_add-first g c =
-    let fits = part-within (g.B.Bank.given c.args.bank.now) c.args.members.now c.requires.placed c.args.shape.now (inl c.requires.shape) c.args.stripe (subst (λ (s : Shape). c.args.stripe < c.args.members.now.newest.size / s.chunk) (sym c.requires.shape) c.requires.stripe) c.list_length.result c.list_length.ensures c.loop-done.done 0
+    let fits = part-within (g.B.Bank.given c.args.bank.now) c.args.members.now c.requires.stands.placed c.args.shape.now (inl c.requires.shape) c.args.stripe (subst (λ (s : Shape). c.args.stripe < c.args.members.now.newest.size / s.chunk) (sym c.requires.shape) c.requires.stripe) c.list_length.result c.list_length.ensures c.loop-done.done 0
     (let within = c.loop-done.invariant.within in omega (arith, within)) in
     omega (arith, fits.0, fits.1)
 
-pub fill_part-part-requires-clause-free : goal.fill_part-part-requires-clause-free
-fill_part-part-requires-clause-free g c =
-    let was = c.loop-done.invariant in
-    let n = c.loop-done.members in
-    let given = g.B.Bank.given c.args.bank.now in
-    subst (λ (b : Given). AreSparesFree b n) (sym was.given) (was.moved.free c.requires.free)
+pub fill_part-part-requires-clause-stands : goal.fill_part-part-requires-clause-stands
+fill_part-part-requires-clause-stands g c = members-stand-on c.loop-done.invariant.keeps c.requires.stands
 
 pub fill_part-part-requires-clause-recovering : goal.fill_part-part-requires-clause-recovering
 fill_part-part-requires-clause-recovering g c =
@@ -78,7 +68,7 @@ fill_part-part-requires-clause-recovering g c =
     let same_role : t.role ≡ role = c.target_of-target.ensures.role in
     let same_slot : t.slot ≡ slot = c.target_of-target.ensures.slot in
     let found = found-in c.recovering_slot.result _ (sym c.is_some.ensures ∙ c.if-is_some.true) c.recovering_slot.ensures.some in
-    let recovers : role_state (reading_of n) role ≡ Recovering slot = subst (λ (s : ℕ). role_state (reading_of n) role ≡ Recovering s) (recovered-alone was.moved role slot found.0 c.requires.recovering found.1) found.1 in
+    let recovers : role_state (reading_of n) role ≡ Recovering slot = subst (λ (s : ℕ). role_state (reading_of n) role ≡ Recovering s) (recovered-alone was.keeps.moved role slot found.0 c.requires.recovering found.1) found.1 in
     ap (role_state (reading_of n)) same_role ∙ recovers ∙ ap (λ (s : ℕ). Recovering s) (sym same_slot)
 
 pub fill_part-part-requires-clause-offset : goal.fill_part-part-requires-clause-offset
@@ -88,7 +78,7 @@ fill_part-part-requires-clause-offset g c =
     let slot = c.args.slot in
     let t = c.target_of-target.result in
     let same_slot : t.slot ≡ slot = c.target_of-target.ensures.slot in
-    c.target_of-target.ensures.offset ∙ sym (was.moved.offsets slot) ∙ ap (data_offset_of (reading_of n)) (sym same_slot)
+    c.target_of-target.ensures.offset ∙ sym (was.keeps.moved.offsets slot) ∙ ap (data_offset_of (reading_of n)) (sym same_slot)
 
 pub fill_part-part-requires-clause-held : goal.fill_part-part-requires-clause-held
 fill_part-part-requires-clause-held g c =
@@ -99,49 +89,24 @@ fill_part-part-requires-clause-held g c =
     let t = c.target_of-target.result in
     let same_slot : t.slot ≡ slot = c.target_of-target.ensures.slot in
     let found = found-in c.recovering_slot.result _ (sym c.is_some.ensures ∙ c.if-is_some.true) c.recovering_slot.ensures.some in
-    let recovers : role_state (reading_of n) role ≡ Recovering slot = subst (λ (s : ℕ). role_state (reading_of n) role ≡ Recovering s) (recovered-alone was.moved role slot found.0 c.requires.recovering found.1) found.1 in
-    c.target_of-target.ensures.held ∙ sym (recovered-rows was.moved role slot recovers) ∙ ap (λ (s : ℕ). rows_held (reading_of n) (Recovering s)) (sym same_slot)
+    let recovers : role_state (reading_of n) role ≡ Recovering slot = subst (λ (s : ℕ). role_state (reading_of n) role ≡ Recovering s) (recovered-alone was.keeps.moved role slot found.0 c.requires.recovering found.1) found.1 in
+    c.target_of-target.ensures.held ∙ sym (recovered-rows was.keeps.moved role slot recovers) ∙ ap (λ (s : ℕ). rows_held (reading_of n) (Recovering s)) (sym same_slot)
 
 pub fill_part-part-requires-clause-within : goal.fill_part-part-requires-clause-within
 fill_part-part-requires-clause-within g c =
-    let fits = part-within (g.B.Bank.given c.args.bank.now) c.args.members.now c.requires.placed c.args.shape.now (inl c.requires.shape) c.args.stripe (subst (λ (s : Shape). c.args.stripe < c.args.members.now.newest.size / s.chunk) (sym c.requires.shape) c.requires.stripe) c.list_length.result c.list_length.ensures c.loop-done.done c.min-count.result
+    let fits = part-within (g.B.Bank.given c.args.bank.now) c.args.members.now c.requires.stands.placed c.args.shape.now (inl c.requires.shape) c.args.stripe (subst (λ (s : Shape). c.args.stripe < c.args.members.now.newest.size / s.chunk) (sym c.requires.shape) c.requires.stripe) c.list_length.result c.list_length.ensures c.loop-done.done c.min-count.result
     (let count = c.min-count.ensures in let within = c.loop-done.invariant.within in omega (arith, count, within)) in
-    let size = ap (λ (k : ℕ). data_disks c.args.shape.now * k) c.loop-done.invariant.moved.size in
+    let size = ap (λ (k : ℕ). data_disks c.args.shape.now * k) c.loop-done.invariant.keeps.moved.size in
     omega (arith, fits.0, size)
 
 pub fill_part-part-requires-clause-short : goal.fill_part-part-requires-clause-short
 fill_part-part-requires-clause-short g c =
-    let fits = part-within (g.B.Bank.given c.args.bank.now) c.args.members.now c.requires.placed c.args.shape.now (inl c.requires.shape) c.args.stripe (subst (λ (s : Shape). c.args.stripe < c.args.members.now.newest.size / s.chunk) (sym c.requires.shape) c.requires.stripe) c.list_length.result c.list_length.ensures c.loop-done.done c.min-count.result
+    let fits = part-within (g.B.Bank.given c.args.bank.now) c.args.members.now c.requires.stands.placed c.args.shape.now (inl c.requires.shape) c.args.stripe (subst (λ (s : Shape). c.args.stripe < c.args.members.now.newest.size / s.chunk) (sym c.requires.shape) c.requires.stripe) c.list_length.result c.list_length.ensures c.loop-done.done c.min-count.result
     (let count = c.min-count.ensures in let within = c.loop-done.invariant.within in omega (arith, count, within)) in
     omega (arith, fits.0, fits.1)
 
-pub returns-then-is_some-2-clause-moved : goal.returns-then-is_some-2-clause-moved
-returns-then-is_some-2-clause-moved g c =
-    let was = c.loop-done.invariant in
-    let m = c.args.members.now in
-    let n = c.loop-done.members in
-    let given = g.B.Bank.given c.args.bank.now in
-    let given1 = g.B.Bank.given c.loop-done.bank in
-    let did = c.fill_part-part.ensures in
-    let new = c.fill_part-part.new.members in
-    let moved : IsMoved given n new = moved-from given given1 n n new was.given refl did.moved in
-    moved-then given m n new was.moved moved
-
-pub returns-then-is_some-2-clause-failed : goal.returns-then-is_some-2-clause-failed
-returns-then-is_some-2-clause-failed g c =
-    let was = c.loop-done.invariant in
-    let m = c.args.members.now in
-    let n = c.loop-done.members in
-    let did = c.fill_part-part.ensures in
-    let new = c.fill_part-part.new.members in
-    let f0 = g.B.Bank.faults_of c.args.bank.now in
-    let f1 = g.B.Bank.faults_of c.loop-done.bank in
-    let f2 = g.B.Bank.faults_of c.fill_part-part.new.bank in
-    since-then m n new c.loop-done.spares c.fill_part-part.result.spares _ f0 f1 f2 was.counts did.counts was.failed did.failed (in-either c.loop-done.spares c.fill_part-part.result.spares)
-
-pub returns-then-is_some-2-clause-grows : goal.returns-then-is_some-2-clause-grows
-returns-then-is_some-2-clause-grows g c =
-    grows-then c.loop-done.invariant.grows c.fill_part-part.ensures.grows
+pub returns-then-is_some-2-clause-keeps : goal.returns-then-is_some-2-clause-keeps
+returns-then-is_some-2-clause-keeps g c = members-then c.loop-done.invariant.keeps c.fill_part-part.ensures.keeps (in-either c.loop-done.spares c.fill_part-part.result.spares)
 
 pub returns-then-is_some-2-clause-others : goal.returns-then-is_some-2-clause-others
 returns-then-is_some-2-clause-others g c =
@@ -157,10 +122,10 @@ returns-then-is_some-2-clause-others g c =
     let same_role : t.role ≡ role = c.target_of-target.ensures.role in
     let same_slot : t.slot ≡ slot = c.target_of-target.ensures.slot in
     let found = found-in c.recovering_slot.result _ (sym c.is_some.ensures ∙ c.if-is_some.true) c.recovering_slot.ensures.some in
-    let recovers : role_state (reading_of n) role ≡ Recovering slot = subst (λ (s : ℕ). role_state (reading_of n) role ≡ Recovering s) (recovered-alone was.moved role slot found.0 c.requires.recovering found.1) found.1 in
+    let recovers : role_state (reading_of n) role ≡ Recovering slot = subst (λ (s : ℕ). role_state (reading_of n) role ≡ Recovering s) (recovered-alone was.keeps.moved role slot found.0 c.requires.recovering found.1) found.1 in
     let did = c.fill_part-part.ensures in
     let new = c.fill_part-part.new.members in
-    let moved : IsMoved given n new = moved-from given given1 n n new was.given refl did.moved in
+    let moved : IsMoved given n new = moved-from given given1 n n new was.keeps.bank.same refl did.keeps.moved in
     let tape0 = g.B.Bank.tape c.args.bank.now in
     let tape1 = g.B.Bank.tape c.loop-done.bank in
     let tape2 = g.B.Bank.tape c.fill_part-part.new.bank in
@@ -168,21 +133,17 @@ returns-then-is_some-2-clause-others g c =
     let stripe = c.args.stripe in
     let done = c.loop-done.done in
     let count = c.min-count.result in
-    let valid = valid-in given m c.requires.placed shape (inl c.requires.shape) in
+    let valid = valid-in given m c.requires.stands.placed shape (inl c.requires.shape) in
     let part : done + count ≤ shape.chunk = (let low = c.min-count.ensures in let within = was.within in omega (arith, low, within)) in
     let touched = IsTouched shape (stripe * c.list_length.result + done) count in
     let here = touched-in_parts shape valid stripe c.list_length.result c.list_length.ensures done count part in
     let filled : g.B.Bank.tells → IsFilledAmong n role slot touched (present given tape1) (present given tape2) =
-    λ told. subst (λ (b : Given). IsFilledAmong n role slot touched (present b tape1) (present b tape2)) was.given
+    λ told. subst (λ (b : Given). IsFilledAmong n role slot touched (present b tape1) (present b tape2)) was.keeps.bank.same
     (subst (λ (r : ℕ). IsFilledAmong n r slot touched (present given1 tape1) (present given1 tape2)) same_role
     (subst (λ (s : ℕ). IsFilledAmong n t.role s touched (present given1 tape1) (present given1 tape2)) same_slot (did.others told))) in
     filled-then m role slot (IsInParts shape stripe done) (IsOfStripe shape stripe) (IsOfStripe shape stripe) (present given tape0) (present given tape1) (present given tape2)
     (λ row at. parts-of_stripe shape stripe done row was.within at) (λ row at. at) (was.others told)
-    (filled-before was.moved role slot touched (IsOfStripe shape stripe) (present given tape1) (present given tape2) recovers (λ row at. parts-of_stripe shape stripe (done + count) row part (here row at)) (filled told))
-
-pub returns-then-is_some-2-clause-rise : goal.returns-then-is_some-2-clause-rise
-returns-then-is_some-2-clause-rise g c =
-    risen-then c.loop-done.invariant.rise c.fill_part-part.ensures.rise
+    (filled-before was.keeps.moved role slot touched (IsOfStripe shape stripe) (present given tape1) (present given tape2) recovers (λ row at. parts-of_stripe shape stripe (done + count) row part (here row at)) (filled told))
 
 pub returns-then-is_some-2-clause-safe : goal.returns-then-is_some-2-clause-safe
 returns-then-is_some-2-clause-safe g c =
@@ -193,18 +154,14 @@ returns-then-is_some-2-clause-safe g c =
     let given1 = g.B.Bank.given c.loop-done.bank in
     let did = c.fill_part-part.ensures in
     let new = c.fill_part-part.new.members in
-    let moved : IsMoved given n new = moved-from given given1 n n new was.given refl did.moved in
+    let moved : IsMoved given n new = moved-from given given1 n n new was.keeps.bank.same refl did.keeps.moved in
     let tape0 = g.B.Bank.tape c.args.bank.now in
     let tape1 = g.B.Bank.tape c.loop-done.bank in
     let tape2 = g.B.Bank.tape c.fill_part-part.new.bank in
     λ told world ledger room gone unclean safe.
-    safe-part world given given1 ledger m n new tape0 tape1 tape2 told was.given was.moved.placed moved did.grows was.rise room gone
+    safe-part world given given1 ledger m n new tape0 tape1 tape2 told was.keeps.bank.same was.keeps.moved.placed moved did.keeps.bank.grows was.keeps.rise room gone
     (λ first gone1. was.safe told world ledger first gone1 unclean safe)
     (λ then now. did.safe told world ledger then gone (λ dirty. unclean (sym was.clean ∙ dirty)) now)
-
-pub returns-then-is_some-2-clause-counts : goal.returns-then-is_some-2-clause-counts
-returns-then-is_some-2-clause-counts g c =
-    λ s. le_trans (c.loop-done.invariant.counts s) (c.fill_part-part.ensures.counts s)
 
 pub loop-done-preserved : goal.loop-done-preserved
 loop-done-preserved g c =
@@ -219,10 +176,10 @@ loop-done-preserved g c =
     let same_role : t.role ≡ role = c.target_of-target.ensures.role in
     let same_slot : t.slot ≡ slot = c.target_of-target.ensures.slot in
     let found = found-in c.recovering_slot.result _ (sym c.is_some.ensures ∙ c.if-is_some.true) c.recovering_slot.ensures.some in
-    let recovers : role_state (reading_of n) role ≡ Recovering slot = subst (λ (s : ℕ). role_state (reading_of n) role ≡ Recovering s) (recovered-alone was.moved role slot found.0 c.requires.recovering found.1) found.1 in
+    let recovers : role_state (reading_of n) role ≡ Recovering slot = subst (λ (s : ℕ). role_state (reading_of n) role ≡ Recovering s) (recovered-alone was.keeps.moved role slot found.0 c.requires.recovering found.1) found.1 in
     let did = c.fill_part-part.ensures in
     let new = c.fill_part-part.new.members in
-    let moved : IsMoved given n new = moved-from given given1 n n new was.given refl did.moved in
+    let moved : IsMoved given n new = moved-from given given1 n n new was.keeps.bank.same refl did.keeps.moved in
     let tape0 = g.B.Bank.tape c.args.bank.now in
     let tape1 = g.B.Bank.tape c.loop-done.bank in
     let tape2 = g.B.Bank.tape c.fill_part-part.new.bank in
@@ -230,54 +187,49 @@ loop-done-preserved g c =
     let stripe = c.args.stripe in
     let done = c.loop-done.done in
     let count = c.min-count.result in
-    let valid = valid-in given m c.requires.placed shape (inl c.requires.shape) in
+    let valid = valid-in given m c.requires.stands.placed shape (inl c.requires.shape) in
     let part : done + count ≤ shape.chunk = (let low = c.min-count.ensures in let within = was.within in omega (arith, low, within)) in
     let touched = IsTouched shape (stripe * c.list_length.result + done) count in
     let here = touched-in_parts shape valid stripe c.list_length.result c.list_length.ensures done count part in
     let filled : g.B.Bank.tells → IsFilledAmong n role slot touched (present given tape1) (present given tape2) =
-    λ told. subst (λ (b : Given). IsFilledAmong n role slot touched (present b tape1) (present b tape2)) was.given
+    λ told. subst (λ (b : Given). IsFilledAmong n role slot touched (present b tape1) (present b tape2)) was.keeps.bank.same
     (subst (λ (r : ℕ). IsFilledAmong n r slot touched (present given1 tape1) (present given1 tape2)) same_role
     (subst (λ (s : ℕ). IsFilledAmong n t.role s touched (present given1 tape1) (present given1 tape2)) same_slot (did.others told))) in
     let f0 = g.B.Bank.faults_of c.args.bank.now in
     let f1 = g.B.Bank.faults_of c.loop-done.bank in
     let f2 = g.B.Bank.faults_of c.fill_part-part.new.bank in
     record {
-      moved = moved-then given m n new was.moved moved;
-      failed = since-then m n new c.loop-done.spares c.fill_part-part.result.spares _ f0 f1 f2 was.counts did.counts was.failed did.failed (in-either c.loop-done.spares c.fill_part-part.result.spares);
-      grows = grows-then was.grows did.grows;
+      keeps = members-then was.keeps did.keeps (in-either c.loop-done.spares c.fill_part-part.result.spares);
       clean = did.clean ∙ was.clean;
       within = part;
       full = λ told list stands among then row at high.
           let c1 = present given tape1 in
           let c2 = present given tape2 in
           elim (part-touches shape valid stripe c.list_length.result c.list_length.ensures done count part row at) [
-            | inl early ↦ full-kept moved was.moved.placed role slot recovers touched c1 c2 (filled told) shape list role slot row then
+            | inl early ↦ full-kept moved was.keeps.moved.placed role slot recovers touched c1 c2 (filled told) shape list role slot row then
                 (λ same touch. touched-late shape valid stripe c.list_length.result c.list_length.ensures done count part row early touch) (was.full told list stands among recovers row early high)
             | inr late ↦
                 let none = none-of c.fill_part-part.result.refusal (sym c.is_some-in-loop-done.ensures ∙ c.if-is_some-2.false) in
-                let list1 : DataStandsAmong shape touched n c1 list = λ other touch below. data-filled was.moved c.requires.placed role slot c.requires.recovering (IsInParts shape stripe done) (present given tape0) c1 (was.others told)
+                let list1 : DataStandsAmong shape touched n c1 list = λ other touch below. data-filled was.keeps.moved c.requires.stands.placed role slot c.requires.recovering (IsInParts shape stripe done) (present given tape0) c1 (was.others told)
                 shape (IsOfStripe shape stripe) list stands other (parts-of_stripe shape stripe (done + count) other part (here other touch)) below in
-                let rows1 : RowsStandAmong shape touched n c1 list = λ other touch below. row-filled was.moved c.requires.placed role slot c.requires.recovering (IsInParts shape stripe done) (present given tape0) c1 (was.others told) shape list other
-                (among other (parts-of_stripe shape stripe (done + count) other part (here other touch)) (subst (λ (k : ℕ). other < k) was.moved.size below)) in
+                let rows1 : RowsStandAmong shape touched n c1 list = λ other touch below. row-filled was.keeps.moved c.requires.stands.placed role slot c.requires.recovering (IsInParts shape stripe done) (present given tape0) c1 (was.others told) shape list other
+                (among other (parts-of_stripe shape stripe (done + count) other part (here other touch)) (subst (λ (k : ℕ). other < k) was.keeps.moved.size below)) in
                 let then_t : role_state (reading_of new) t.role ≡ Recovering t.slot = ap (role_state (reading_of new)) same_role ∙ then ∙ ap (λ (s : ℕ). Recovering s) (sym same_slot) in
                 let high_t : t.held ≤ row = subst (λ (k : ℕ). k ≤ row) (sym c.target_of-target.ensures.held) high in
                 let done_t : HasFull (reading_of new) (present given1 tape2) shape list row t.role t.slot = did.filled none then_t told list
-                (subst (λ (b : Given). DataStandsAmong shape touched n (present b tape1) list) (sym was.given) list1) (subst (λ (b : Given). RowsStandAmong shape touched n (present b tape1) list) (sym was.given) rows1) row late high_t in
-                subst (λ (b : Given). HasFull (reading_of new) (present b tape2) shape list row role slot) was.given
+                (subst (λ (b : Given). DataStandsAmong shape touched n (present b tape1) list) (sym was.keeps.bank.same) list1) (subst (λ (b : Given). RowsStandAmong shape touched n (present b tape1) list) (sym was.keeps.bank.same) rows1) row late high_t in
+                subst (λ (b : Given). HasFull (reading_of new) (present b tape2) shape list row role slot) was.keeps.bank.same
                 (subst (λ (r : ℕ). HasFull (reading_of new) (present given1 tape2) shape list row r slot) same_role
                 (subst (λ (s : ℕ). HasFull (reading_of new) (present given1 tape2) shape list row t.role s) same_slot done_t))
           ];
       others = λ told.
           filled-then m role slot (IsInParts shape stripe done) (IsInParts shape stripe (done + count)) (IsInParts shape stripe (done + count)) (present given tape0) (present given tape1) (present given tape2)
           (λ row at. parts-longer shape stripe done count row at) (λ row at. at) (was.others told)
-          (filled-before was.moved role slot touched (IsInParts shape stripe (done + count)) (present given tape1) (present given tape2) recovers here (filled told));
-      rise = risen-then was.rise did.rise;
+          (filled-before was.keeps.moved role slot touched (IsInParts shape stripe (done + count)) (present given tape1) (present given tape2) recovers here (filled told));
       safe = λ told world ledger room gone unclean safe.
-          safe-part world given given1 ledger m n new tape0 tape1 tape2 told was.given was.moved.placed moved did.grows was.rise room gone
+          safe-part world given given1 ledger m n new tape0 tape1 tape2 told was.keeps.bank.same was.keeps.moved.placed moved did.keeps.bank.grows was.keeps.rise room gone
           (λ first gone1. was.safe told world ledger first gone1 unclean safe)
           (λ then now. did.safe told world ledger then gone (λ dirty. unclean (sym was.clean ∙ dirty)) now);
-      given = did.given ∙ was.given;
-      counts = λ s. le_trans (was.counts s) (did.counts s);
       rows = le_trans was.rows did.rows;
       buffer = did.buffer ∙ was.buffer;
     }
@@ -313,17 +265,8 @@ returns-after-loop-done-clause-others g c =
     filled-then c.args.members.now c.args.role c.args.slot (IsInParts c.args.shape.now c.args.stripe c.loop-done.done) stripe stripe c0 c1 c1
     (λ row at. parts-of_stripe c.args.shape.now c.args.stripe c.loop-done.done row was.within at) (λ row at. at) (was.others told) (filled-none c.args.members.now c.args.role c.args.slot stripe c1)
 
-pub fill_part-part-requires-clause-slots : goal.fill_part-part-requires-clause-slots
-fill_part-part-requires-clause-slots g c = subst (λ (b : Given). b.slots ≤ 32) (sym c.loop-done.invariant.given) c.requires.slots
-
-pub fill_part-part-requires-clause-placed : goal.fill_part-part-requires-clause-placed
-fill_part-part-requires-clause-placed g c = subst (λ (b : Given). IsPlaced b c.loop-done.members) (sym c.loop-done.invariant.given) c.loop-done.invariant.moved.placed
-
-pub fill_part-part-requires-clause-unlost : goal.fill_part-part-requires-clause-unlost
-fill_part-part-requires-clause-unlost g c = c.loop-done.invariant.moved.unlost
-
 pub fill_part-part-requires-clause-shape : goal.fill_part-part-requires-clause-shape
-fill_part-part-requires-clause-shape g c = c.requires.shape ∙ sym c.loop-done.invariant.moved.shape
+fill_part-part-requires-clause-shape g c = c.requires.shape ∙ sym c.loop-done.invariant.keeps.moved.shape
 
 pub fill_part-part-requires-clause-role : goal.fill_part-part-requires-clause-role
 fill_part-part-requires-clause-role g c = subst (λ (r : ℕ). r < c.args.shape.now.disks) (sym c.target_of-target.ensures.role) c.requires.role
@@ -343,38 +286,20 @@ returns-then-is_some-2-clause-clean g c = c.fill_part-part.ensures.clean ∙ c.l
 pub returns-then-is_some-2-clause-filled : goal.returns-then-is_some-2-clause-filled
 returns-then-is_some-2-clause-filled g c none recovers told = absurd (some-none c.fill_part-part.result.refusal (sym c.is_some-in-loop-done.ensures ∙ c.if-is_some-2.true) none)
 
-pub returns-then-is_some-2-clause-given : goal.returns-then-is_some-2-clause-given
-returns-then-is_some-2-clause-given g c = c.fill_part-part.ensures.given ∙ c.loop-done.invariant.given
-
 pub returns-then-is_some-2-clause-rows : goal.returns-then-is_some-2-clause-rows
 returns-then-is_some-2-clause-rows g c = le_trans c.loop-done.invariant.rows c.fill_part-part.ensures.rows
 
 pub returns-then-is_some-2-clause-buffer : goal.returns-then-is_some-2-clause-buffer
 returns-then-is_some-2-clause-buffer g c = c.fill_part-part.ensures.buffer ∙ c.loop-done.invariant.buffer
 
-pub returns-else-is_some-clause-moved : goal.returns-else-is_some-clause-moved
-returns-else-is_some-clause-moved g c = c.loop-done.invariant.moved
-
-pub returns-else-is_some-clause-failed : goal.returns-else-is_some-clause-failed
-returns-else-is_some-clause-failed g c = c.loop-done.invariant.failed
-
-pub returns-else-is_some-clause-grows : goal.returns-else-is_some-clause-grows
-returns-else-is_some-clause-grows g c = c.loop-done.invariant.grows
+pub returns-else-is_some-clause-keeps : goal.returns-else-is_some-clause-keeps
+returns-else-is_some-clause-keeps g c = c.loop-done.invariant.keeps
 
 pub returns-else-is_some-clause-clean : goal.returns-else-is_some-clause-clean
 returns-else-is_some-clause-clean g c = c.loop-done.invariant.clean
 
-pub returns-else-is_some-clause-rise : goal.returns-else-is_some-clause-rise
-returns-else-is_some-clause-rise g c = c.loop-done.invariant.rise
-
 pub returns-else-is_some-clause-safe : goal.returns-else-is_some-clause-safe
 returns-else-is_some-clause-safe g c = c.loop-done.invariant.safe
-
-pub returns-else-is_some-clause-given : goal.returns-else-is_some-clause-given
-returns-else-is_some-clause-given g c = c.loop-done.invariant.given
-
-pub returns-else-is_some-clause-counts : goal.returns-else-is_some-clause-counts
-returns-else-is_some-clause-counts g c = c.loop-done.invariant.counts
 
 pub returns-else-is_some-clause-rows : goal.returns-else-is_some-clause-rows
 returns-else-is_some-clause-rows g c = c.loop-done.invariant.rows
@@ -382,29 +307,14 @@ returns-else-is_some-clause-rows g c = c.loop-done.invariant.rows
 pub returns-else-is_some-clause-buffer : goal.returns-else-is_some-clause-buffer
 returns-else-is_some-clause-buffer g c = c.loop-done.invariant.buffer
 
-pub returns-after-loop-done-clause-moved : goal.returns-after-loop-done-clause-moved
-returns-after-loop-done-clause-moved g c = c.loop-done.invariant.moved
-
-pub returns-after-loop-done-clause-failed : goal.returns-after-loop-done-clause-failed
-returns-after-loop-done-clause-failed g c = c.loop-done.invariant.failed
-
-pub returns-after-loop-done-clause-grows : goal.returns-after-loop-done-clause-grows
-returns-after-loop-done-clause-grows g c = c.loop-done.invariant.grows
+pub returns-after-loop-done-clause-keeps : goal.returns-after-loop-done-clause-keeps
+returns-after-loop-done-clause-keeps g c = c.loop-done.invariant.keeps
 
 pub returns-after-loop-done-clause-clean : goal.returns-after-loop-done-clause-clean
 returns-after-loop-done-clause-clean g c = c.loop-done.invariant.clean
 
-pub returns-after-loop-done-clause-rise : goal.returns-after-loop-done-clause-rise
-returns-after-loop-done-clause-rise g c = c.loop-done.invariant.rise
-
 pub returns-after-loop-done-clause-safe : goal.returns-after-loop-done-clause-safe
 returns-after-loop-done-clause-safe g c = c.loop-done.invariant.safe
-
-pub returns-after-loop-done-clause-given : goal.returns-after-loop-done-clause-given
-returns-after-loop-done-clause-given g c = c.loop-done.invariant.given
-
-pub returns-after-loop-done-clause-counts : goal.returns-after-loop-done-clause-counts
-returns-after-loop-done-clause-counts g c = c.loop-done.invariant.counts
 
 pub returns-after-loop-done-clause-rows : goal.returns-after-loop-done-clause-rows
 returns-after-loop-done-clause-rows g c = c.loop-done.invariant.rows

@@ -1,18 +1,17 @@
 use Rattle.std.proofs.Common.{◌≡◌, ◌-◌, ◌≤◌, ℕ, length, vec_capacity}
-use Rattle.sb_safe_updates.specs.bank_Given.{NeverFalls}
 use Rattle.sb_safe_updates.specs.raid_types_Sectors.{Sector}
 use Rattle.sb_safe_updates.specs.raid_types_the_Role_TheVariants.{Recovering}
 use Rattle.sb_safe_updates.specs.sb_specs_Reading.{is_clean, role_state, rows_held}
 use Rattle.sb_safe_updates.specs.stripe_row_Rows.{reading_of, present}
 use Rattle.sb_safe_updates.specs.stripe_list_Writing.{HasFull}
-use Rattle.sb_safe_updates.specs.array_members_Moving.{Grows, IsMoved}
-use Rattle.sb_safe_updates.specs.crash_safety_laws_Safety.{HasRoomLeft, IsRisen}
-use Rattle.sb_safe_updates.specs.array_members_Lacking.{HaveFailedSince, DataStandsAmong, RowsStandAmong, IsOfStripe}
+use Rattle.sb_safe_updates.specs.crash_safety_laws_Safety.{HasRoomLeft}
+use Rattle.sb_safe_updates.specs.array_members_Lacking.{DataStandsAmong, RowsStandAmong, IsOfStripe}
 use Rattle.sb_safe_updates.specs.history_World.{World}
 use Rattle.sb_safe_updates.specs.array_members_Rebuilding.{IsFilledAmong}
 use Rattle.sb_safe_updates.specs.crash_views_Views.{Ledger}
 use Rattle.sb_safe_updates.specs.crash_safety_laws_Steady.{IsSafeOver, KeepsSafe, AreGoneTold, IsUncleanTold}
 use Rattle.sb_safe_updates.proofs.array_members_SyncedParts.{IsInParts}
+use Rattle.sb_safe_updates.specs.Frame.{KeepsMembers}
 use Rattle.stripe_io.proofs.filling.fill.Given as goal
 
 abbrev pub decreases-loop-done : goal.decreases-loop-done
@@ -20,9 +19,7 @@ decreases-loop-done g l = l.chunk - l.done
 
 abbrev pub invariant-loop-done : goal.invariant-loop-done
 invariant-loop-done g l = record {
-  moved : IsMoved (g.B.Bank.given l.fn.bank) l.fn.members l.members;
-  failed : HaveFailedSince l.fn.members l.members l.spares (g.B.Bank.faults_of l.fn.bank) (g.B.Bank.faults_of l.bank);
-  grows : Grows g.B.Bank.tells (g.B.Bank.tape l.fn.bank) (g.B.Bank.tape l.bank);
+  keeps : KeepsMembers g.B.Bank.tells g.B.Bank.given g.B.Bank.tape g.B.Bank.faults_of l.fn.bank l.bank l.fn.members l.members l.spares;
   clean : is_clean l.members.newest ≡ is_clean l.fn.members.newest;
   within : l.done ≤ l.chunk;
   full : g.B.Bank.tells → (list : ℕ → Sector) → DataStandsAmong l.shape (IsOfStripe l.shape l.stripe) l.fn.members (present (g.B.Bank.given l.fn.bank) (g.B.Bank.tape l.fn.bank)) list
@@ -31,12 +28,9 @@ invariant-loop-done g l = record {
       → HasFull (reading_of l.members) (present (g.B.Bank.given l.fn.bank) (g.B.Bank.tape l.bank)) l.shape list row l.role l.slot;
   others : g.B.Bank.tells → IsFilledAmong l.fn.members l.role l.slot (IsInParts l.shape l.stripe l.done)
       (present (g.B.Bank.given l.fn.bank) (g.B.Bank.tape l.fn.bank)) (present (g.B.Bank.given l.fn.bank) (g.B.Bank.tape l.bank));
-  rise : IsRisen g.B.Bank.tells l.fn.members l.members (g.B.Bank.tape l.fn.bank) (g.B.Bank.tape l.bank);
   safe : g.B.Bank.tells → (world : World) → (told : Ledger) → HasRoomLeft l.fn.members (g.B.Bank.tape l.fn.bank) (g.B.Bank.tape l.bank)
       → AreGoneTold told l.members → IsUncleanTold told l.fn.members → IsSafeOver world (g.B.Bank.given l.fn.bank) told l.fn.members (g.B.Bank.tape l.fn.bank)
       → KeepsSafe world (g.B.Bank.given l.fn.bank) told l.members (g.B.Bank.tape l.fn.bank) (g.B.Bank.tape l.bank);
-  given : g.B.Bank.given l.bank ≡ g.B.Bank.given l.fn.bank;
-  counts : NeverFalls (g.B.Bank.faults_of l.fn.bank) (g.B.Bank.faults_of l.bank);
   rows : vec_capacity l.fn.rows ≤ vec_capacity l.rows;
   buffer : length l.buffer.items ≡ length l.fn.buffer.items;
 }

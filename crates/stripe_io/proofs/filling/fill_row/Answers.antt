@@ -9,10 +9,10 @@ use Rattle.sb_safe_updates.specs.array_members_Rebuilding.{IsFilling}
 use Rattle.stripe_io.proofs.FillingLaws.{AreFilled, row_write, filled-present, filled-more, write-stands, marks-written, filled-none}
 use Rattle.sb_safe_updates.specs.stripe_row_Rows.{present}
 use Rattle.sb_safe_updates.proofs.array_members_LackingWrites.{marks-here}
-use Rattle.sb_safe_updates.proofs.array_members_MovedLaws.{grows-none}
 use Rattle.std.specs.Prelude.{Result}
 use Rattle.sb_safe_updates.specs.bank_the_Operation.{Operation}
 use Rattle.sb_safe_updates.specs.array_members_Moving.{Grows}
+use Rattle.sb_safe_updates.proofs.FrameLaws.{goes-none}
 use Rattle.stripe_io.proofs.filling.fill_row.Goals as goal
 
 pub overflow_add-target : goal.overflow_add-target
@@ -86,15 +86,16 @@ pub returns-then-row-target-clause-others : goal.returns-then-row-target-clause-
 returns-then-row-target-clause-others g c told =
     filled-none c.args.members.now c.args.target.now.role c.args.target.now.slot (λ other. other ≡ c.args.row) (present (g.B.Bank.given c.args.bank.now) (g.B.Bank.tape c.args.bank.now))
 
-pub returns-then-row-target-clause-grows : goal.returns-then-row-target-clause-grows
-returns-then-row-target-clause-grows g c = grows-none (λ told. refl)
+pub returns-then-row-target-clause-bank : goal.returns-then-row-target-clause-bank
+returns-then-row-target-clause-bank g c = goes-none c.args.bank.now
 
 -- operations that were done are added to the tape
 grows-did : {T E tells : Type 0} {result : Result T E} {old new ops : List Operation} → Did tells result old new ops → Grows tells old new
 grows-did {ops = ops} did = record { more = λ told. let some = did.some told in (take some.0 ops, some.1) }
 
-pub returns-clause-grows : goal.returns-clause-grows
-returns-clause-grows g c = grows-did c.write_sector.ensures.did
-
-pub returns-clause-counts : goal.returns-clause-counts
-returns-clause-counts g c = c.write_sector.ensures.cause.never_falls
+pub returns-clause-bank : goal.returns-clause-bank
+returns-clause-bank g c = record {
+  same = c.write_sector.ensures.given;
+  grows = grows-did c.write_sector.ensures.did;
+  counts = c.write_sector.ensures.cause.never_falls;
+}

@@ -1,4 +1,4 @@
-use Rattle.std.proofs.Common.{◌≡◌, inr, ℕ, ◌<◌, ◌≤◌, true, not, eq-eqb, refl, sym, ◌∙◌, ap, subst, arith, inl, le_trans}
+use Rattle.std.proofs.Common.{◌≡◌, inr, ℕ, ◌<◌, true, not, eq-eqb, refl, sym, ◌∙◌, ap, subst, arith, inl}
 use Rattle.std.specs.Prelude.{Contains}
 use Rattle.sb_safe_updates.specs.bank_Given.{Given}
 use Rattle.sb_safe_updates.specs.bank_Tape.{disk}
@@ -11,21 +11,22 @@ use Rattle.sb_safe_updates.specs.stripe_row_Rows.{reading_of, present}
 use Rattle.sb_safe_updates.specs.stripe_list_Writing.{AreSuperblocksKept}
 use Rattle.sb_safe_updates.proofs.stripe_list_LossLaws.{slot_lost, recovering-after}
 use Rattle.sb_safe_updates.specs.history_Sound.{OpensFit}
-use Rattle.sb_safe_updates.specs.array_members_Placed.{AreLost, IsPlaced}
+use Rattle.sb_safe_updates.specs.array_members_Placed.{AreLost}
 use Rattle.sb_safe_updates.specs.crash_safety_laws_Marking.{AreOthersPresent}
 use Rattle.sb_safe_updates.specs.array_members_Moving.{IsMoved}
 use Rattle.sb_safe_updates.specs.crash_safety_laws_Safety.{IsRisen}
-use Rattle.sb_safe_updates.specs.array_members_Rebuilding.{AreSparesFree}
 use Rattle.sb_safe_updates.specs.crash_safety_laws_Steady.{KeepsSafe, IsUncleanTold}
-use Rattle.sb_safe_updates.proofs.array_members_MovedLaws.{moved-lost, moved-then, moved-from, grows-then, moved-same, grows-none}
-use Rattle.sb_safe_updates.proofs.array_members_LackingLaws.{since-lost, since-then, in-second, since-same}
+use Rattle.sb_safe_updates.proofs.array_members_MovedLaws.{moved-from, moved-same}
+use Rattle.sb_safe_updates.proofs.array_members_LackingLaws.{in-second, since-same}
 use Rattle.sb_safe_updates.proofs.array_members_LackingWrites.{marks-here, lost-of, recovering-before}
-use Rattle.sb_safe_updates.proofs.crash_safety_laws_Risen.{risen-lost, risen-then, room-then, risen-none}
+use Rattle.sb_safe_updates.proofs.crash_safety_laws_Risen.{risen-lost, room-then, risen-none}
 use Rattle.sb_safe_updates.proofs.array_members_SafeStretch.{safe-none, safe-then, safe-lost, over-at, keeps-from, grows-longer}
 use Rattle.sb_safe_updates.proofs.array_members_Fit.{few}
 use Rattle.sb_safe_updates.proofs.array_members_FilledParts.{found-in, safe-filled, others-filled, none-found}
 use Rattle.stripe_io.proofs.FillingLaws.{filling-kept}
 use Rattle.stripe_io.proofs.RefusedLaws.{true-false}
+use Rattle.sb_safe_updates.specs.Frame.{KeepsMembers}
+use Rattle.sb_safe_updates.proofs.FrameLaws.{members-none, members-of, members-then, members-lost, members-stand-on}
 use Rattle.stripe_io.proofs.filling.fill_rows.Goals as goal
 
 pub returns-then-is_none-clause-safe : goal.returns-then-is_none-clause-safe
@@ -41,7 +42,7 @@ returns-then-write_filled-clause-kept g c = λ still.
     let start = (g.B.Bank.given c.args.bank.now).start in
     let tape0 = g.B.Bank.tape c.args.bank.now in
     each_mark-map (AreSuperblocksKept (disk start tape0))
-    (λ told e filling. filling-kept (g.B.Bank.given c.args.bank.now) c.args.members.now c.args.target.now.role c.args.target.now.slot (disk start tape0) e c.requires.placed still filling) c.write_filled.ensures.each_mark
+    (λ told e filling. filling-kept (g.B.Bank.given c.args.bank.now) c.args.members.now c.args.target.now.role c.args.target.now.slot (disk start tape0) e c.requires.stands.placed still filling) c.write_filled.ensures.each_mark
 
 pub returns-then-write_filled-clause-written : goal.returns-then-write_filled-clause-written
 returns-then-write_filled-clause-written g c = λ recovered told list own. c.write_filled.ensures.written c.if-write_filled.true told list own
@@ -54,23 +55,19 @@ returns-then-write_filled-clause-safe g c =
     let slot = c.args.target.now.slot in
     let found = found-in c.recovering_slot.result _ (c.is_none.ensures ∙ ap not c.if-is_none.false) c.recovering_slot.ensures.some in
     let recovers : role_state (reading_of m) role ≡ Recovering slot = subst (λ (s : ℕ). role_state (reading_of m) role ≡ Recovering s) (c.requires.recovering found.0 found.1) found.1 in
-    safe-filled (OpensFit world) world.scope (g.B.Bank.given c.args.bank.now) ledger m role slot (g.B.Bank.tape c.args.bank.now) (g.B.Bank.tape c.write_filled.new.bank) told c.requires.placed c.requires.unlost recovers
+    safe-filled (OpensFit world) world.scope (g.B.Bank.given c.args.bank.now) ledger m role slot (g.B.Bank.tape c.args.bank.now) (g.B.Bank.tape c.write_filled.new.bank) told c.requires.stands.placed c.requires.stands.unlost recovers
     c.write_filled.ensures.each_mark safe
 
 pub lose_slot-requires-clause-slot : goal.lose_slot-requires-clause-slot
 lose_slot-requires-clause-slot g c =
     let found = found-in c.recovering_slot.result _ (c.is_none.ensures ∙ ap not c.if-is_none.false) c.recovering_slot.ensures.some in
-    subst (λ (s : ℕ). s < 32) (c.requires.recovering found.0 found.1) (c.requires.placed.holders c.args.target.now.role found.0 (ap holder found.1)).small
+    subst (λ (s : ℕ). s < 32) (c.requires.recovering found.0 found.1) (c.requires.stands.placed.holders c.args.target.now.role found.0 (ap holder found.1)).small
 
 pub lose_slot-requires-clause-small : goal.lose_slot-requires-clause-small
-lose_slot-requires-clause-small g c = λ role slot held. (c.requires.placed.holders role slot held).small
+lose_slot-requires-clause-small g c = λ role slot held. (c.requires.stands.placed.holders role slot held).small
 
-pub record_missing-requires-clause-slots : goal.record_missing-requires-clause-slots
-record_missing-requires-clause-slots g c =
-    subst (λ (b : Given). b.slots ≤ 32) (sym c.write_filled.ensures.given) c.requires.slots
-
-pub record_missing-requires-clause-placed : goal.record_missing-requires-clause-placed
-record_missing-requires-clause-placed g c =
+pub record_missing-requires : goal.record_missing-requires
+record_missing-requires g c =
     let given = g.B.Bank.given c.args.bank.now in
     let m = c.args.members.now in
     let n = c.lose_slot.new.members in
@@ -81,13 +78,14 @@ record_missing-requires-clause-placed g c =
     let shape = c.args.shape.now in
     let found = found-in c.recovering_slot.result _ (c.is_none.ensures ∙ ap not c.if-is_none.false) c.recovering_slot.ensures.some in
     let recovers : role_state (reading_of m) role ≡ Recovering slot = subst (λ (s : ℕ). role_state (reading_of m) role ≡ Recovering s) (c.requires.recovering found.0 found.1) found.1 in
-    let lost : AreLost given shape m n c.lose_slot.result f0 f1 = lost-of given shape m n c.lose_slot.result f0 f1 c.requires.placed
-    (slot_lost shape m n c.lose_slot.result slot role f0 f1 c.lose_slot.ensures.members c.lose_slot.ensures.alone c.requires.role (ap holder recovers) (c.write_filled.ensures.failed c.if-write_filled.false) c.write_filled.ensures.counts) in
-    let one : IsMoved given m n = moved-lost given shape m n c.lose_slot.result f0 f1 c.requires.placed lost c.requires.unlost in
-    subst (λ (b : Given). IsPlaced b n) (sym c.write_filled.ensures.given) one.placed
+    let lost : AreLost given shape m n c.lose_slot.result f0 f1 = lost-of given shape m n c.lose_slot.result f0 f1 c.requires.stands.placed
+    (slot_lost shape m n c.lose_slot.result slot role f0 f1 c.lose_slot.ensures.members c.lose_slot.ensures.alone c.requires.role (ap holder recovers) (c.write_filled.ensures.failed c.if-write_filled.false) c.write_filled.ensures.bank.counts) in
+    let first : KeepsMembers g.B.Bank.tells g.B.Bank.given g.B.Bank.tape g.B.Bank.faults_of c.args.bank.now c.write_filled.new.bank m n 0 =
+    members-lost c.args.bank.now c.write_filled.new.bank shape m n c.lose_slot.result c.requires.stands lost c.write_filled.ensures.bank.same c.write_filled.ensures.bank.grows in
+    record { stands = members-stand-on first c.requires.stands }
 
-pub record_missing-requires-clause-unlost : goal.record_missing-requires-clause-unlost
-record_missing-requires-clause-unlost g c =
+pub returns-clause-keeps : goal.returns-clause-keeps
+returns-clause-keeps g c =
     let given = g.B.Bank.given c.args.bank.now in
     let m = c.args.members.now in
     let n = c.lose_slot.new.members in
@@ -98,69 +96,11 @@ record_missing-requires-clause-unlost g c =
     let shape = c.args.shape.now in
     let found = found-in c.recovering_slot.result _ (c.is_none.ensures ∙ ap not c.if-is_none.false) c.recovering_slot.ensures.some in
     let recovers : role_state (reading_of m) role ≡ Recovering slot = subst (λ (s : ℕ). role_state (reading_of m) role ≡ Recovering s) (c.requires.recovering found.0 found.1) found.1 in
-    let lost : AreLost given shape m n c.lose_slot.result f0 f1 = lost-of given shape m n c.lose_slot.result f0 f1 c.requires.placed
-    (slot_lost shape m n c.lose_slot.result slot role f0 f1 c.lose_slot.ensures.members c.lose_slot.ensures.alone c.requires.role (ap holder recovers) (c.write_filled.ensures.failed c.if-write_filled.false) c.write_filled.ensures.counts) in
-    let one : IsMoved given m n = moved-lost given shape m n c.lose_slot.result f0 f1 c.requires.placed lost c.requires.unlost in
-    one.unlost
-
-pub record_missing-requires-clause-free : goal.record_missing-requires-clause-free
-record_missing-requires-clause-free g c =
-    let given = g.B.Bank.given c.args.bank.now in
-    let m = c.args.members.now in
-    let n = c.lose_slot.new.members in
-    let role = c.args.target.now.role in
-    let slot = c.args.target.now.slot in
-    let f0 = g.B.Bank.faults_of c.args.bank.now in
-    let f1 = g.B.Bank.faults_of c.write_filled.new.bank in
-    let shape = c.args.shape.now in
-    let found = found-in c.recovering_slot.result _ (c.is_none.ensures ∙ ap not c.if-is_none.false) c.recovering_slot.ensures.some in
-    let recovers : role_state (reading_of m) role ≡ Recovering slot = subst (λ (s : ℕ). role_state (reading_of m) role ≡ Recovering s) (c.requires.recovering found.0 found.1) found.1 in
-    let lost : AreLost given shape m n c.lose_slot.result f0 f1 = lost-of given shape m n c.lose_slot.result f0 f1 c.requires.placed
-    (slot_lost shape m n c.lose_slot.result slot role f0 f1 c.lose_slot.ensures.members c.lose_slot.ensures.alone c.requires.role (ap holder recovers) (c.write_filled.ensures.failed c.if-write_filled.false) c.write_filled.ensures.counts) in
-    let one : IsMoved given m n = moved-lost given shape m n c.lose_slot.result f0 f1 c.requires.placed lost c.requires.unlost in
-    subst (λ (b : Given). AreSparesFree b n) (sym c.write_filled.ensures.given) (one.free c.requires.free)
-
-pub returns-clause-moved : goal.returns-clause-moved
-returns-clause-moved g c =
-    let given = g.B.Bank.given c.args.bank.now in
-    let m = c.args.members.now in
-    let n = c.lose_slot.new.members in
-    let role = c.args.target.now.role in
-    let slot = c.args.target.now.slot in
-    let f0 = g.B.Bank.faults_of c.args.bank.now in
-    let f1 = g.B.Bank.faults_of c.write_filled.new.bank in
-    let shape = c.args.shape.now in
-    let found = found-in c.recovering_slot.result _ (c.is_none.ensures ∙ ap not c.if-is_none.false) c.recovering_slot.ensures.some in
-    let recovers : role_state (reading_of m) role ≡ Recovering slot = subst (λ (s : ℕ). role_state (reading_of m) role ≡ Recovering s) (c.requires.recovering found.0 found.1) found.1 in
-    let lost : AreLost given shape m n c.lose_slot.result f0 f1 = lost-of given shape m n c.lose_slot.result f0 f1 c.requires.placed
-    (slot_lost shape m n c.lose_slot.result slot role f0 f1 c.lose_slot.ensures.members c.lose_slot.ensures.alone c.requires.role (ap holder recovers) (c.write_filled.ensures.failed c.if-write_filled.false) c.write_filled.ensures.counts) in
-    let one : IsMoved given m n = moved-lost given shape m n c.lose_slot.result f0 f1 c.requires.placed lost c.requires.unlost in
-    let given1 = g.B.Bank.given c.write_filled.new.bank in
-    let same : given1 ≡ given = c.write_filled.ensures.given in
-    let q = c.record_missing.new.members in
-    let named = c.record_missing.ensures in
-    let two : IsMoved given n q = moved-from given given1 n n q same refl named.moved in
-    moved-then given m n q one two
-
-pub returns-clause-failed : goal.returns-clause-failed
-returns-clause-failed g c =
-    let given = g.B.Bank.given c.args.bank.now in
-    let m = c.args.members.now in
-    let n = c.lose_slot.new.members in
-    let role = c.args.target.now.role in
-    let slot = c.args.target.now.slot in
-    let f0 = g.B.Bank.faults_of c.args.bank.now in
-    let f1 = g.B.Bank.faults_of c.write_filled.new.bank in
-    let shape = c.args.shape.now in
-    let found = found-in c.recovering_slot.result _ (c.is_none.ensures ∙ ap not c.if-is_none.false) c.recovering_slot.ensures.some in
-    let recovers : role_state (reading_of m) role ≡ Recovering slot = subst (λ (s : ℕ). role_state (reading_of m) role ≡ Recovering s) (c.requires.recovering found.0 found.1) found.1 in
-    let lost : AreLost given shape m n c.lose_slot.result f0 f1 = lost-of given shape m n c.lose_slot.result f0 f1 c.requires.placed
-    (slot_lost shape m n c.lose_slot.result slot role f0 f1 c.lose_slot.ensures.members c.lose_slot.ensures.alone c.requires.role (ap holder recovers) (c.write_filled.ensures.failed c.if-write_filled.false) c.write_filled.ensures.counts) in
-    let q = c.record_missing.new.members in
-    let named = c.record_missing.ensures in
-    let f2 = g.B.Bank.faults_of c.record_missing.new.bank in
-    let s = c.record_missing.result in
-    since-then m n q 0 s s f0 f1 f2 c.write_filled.ensures.counts named.counts (since-lost given shape m n c.lose_slot.result f0 f1 lost) named.failed (in-second s)
+    let lost : AreLost given shape m n c.lose_slot.result f0 f1 = lost-of given shape m n c.lose_slot.result f0 f1 c.requires.stands.placed
+    (slot_lost shape m n c.lose_slot.result slot role f0 f1 c.lose_slot.ensures.members c.lose_slot.ensures.alone c.requires.role (ap holder recovers) (c.write_filled.ensures.failed c.if-write_filled.false) c.write_filled.ensures.bank.counts) in
+    let first : KeepsMembers g.B.Bank.tells g.B.Bank.given g.B.Bank.tape g.B.Bank.faults_of c.args.bank.now c.write_filled.new.bank m n 0 =
+    members-lost c.args.bank.now c.write_filled.new.bank shape m n c.lose_slot.result c.requires.stands lost c.write_filled.ensures.bank.same c.write_filled.ensures.bank.grows in
+    members-then first (members-of c.record_missing.ensures.keeps) (in-second c.record_missing.result)
 
 pub returns-clause-clean : goal.returns-clause-clean
 returns-clause-clean g c =
@@ -183,13 +123,13 @@ returns-clause-kept g c =
     let shape = c.args.shape.now in
     let found = found-in c.recovering_slot.result _ (c.is_none.ensures ∙ ap not c.if-is_none.false) c.recovering_slot.ensures.some in
     let recovers : role_state (reading_of m) role ≡ Recovering slot = subst (λ (s : ℕ). role_state (reading_of m) role ≡ Recovering s) (c.requires.recovering found.0 found.1) found.1 in
-    let lost : AreLost given shape m n c.lose_slot.result f0 f1 = lost-of given shape m n c.lose_slot.result f0 f1 c.requires.placed
-    (slot_lost shape m n c.lose_slot.result slot role f0 f1 c.lose_slot.ensures.members c.lose_slot.ensures.alone c.requires.role (ap holder recovers) (c.write_filled.ensures.failed c.if-write_filled.false) c.write_filled.ensures.counts) in
+    let lost : AreLost given shape m n c.lose_slot.result f0 f1 = lost-of given shape m n c.lose_slot.result f0 f1 c.requires.stands.placed
+    (slot_lost shape m n c.lose_slot.result slot role f0 f1 c.lose_slot.ensures.members c.lose_slot.ensures.alone c.requires.role (ap holder recovers) (c.write_filled.ensures.failed c.if-write_filled.false) c.write_filled.ensures.bank.counts) in
     let given1 = g.B.Bank.given c.write_filled.new.bank in
-    let same : given1 ≡ given = c.write_filled.ensures.given in
+    let same : given1 ≡ given = c.write_filled.ensures.bank.same in
     let q = c.record_missing.new.members in
     let named = c.record_missing.ensures in
-    let two : IsMoved given n q = moved-from given given1 n n q same refl named.moved in
+    let two : IsMoved given n q = moved-from given given1 n n q same refl named.keeps.moved in
     let out = (recovering-after m c.lose_slot.result role slot (subst (λ (x : Members). role_state (reading_of x) role ≡ Recovering slot) c.lose_slot.ensures.members (recovering-before two role slot still))).1 in
     let gone : has_slot c.lose_slot.result slot ≡ true = c.lose_slot.ensures.alone slot ∙ eq-eqb slot slot refl in
     true-false (sym gone ∙ out)
@@ -207,13 +147,13 @@ returns-clause-written g c =
     let shape = c.args.shape.now in
     let found = found-in c.recovering_slot.result _ (c.is_none.ensures ∙ ap not c.if-is_none.false) c.recovering_slot.ensures.some in
     let recovers : role_state (reading_of m) role ≡ Recovering slot = subst (λ (s : ℕ). role_state (reading_of m) role ≡ Recovering s) (c.requires.recovering found.0 found.1) found.1 in
-    let lost : AreLost given shape m n c.lose_slot.result f0 f1 = lost-of given shape m n c.lose_slot.result f0 f1 c.requires.placed
-    (slot_lost shape m n c.lose_slot.result slot role f0 f1 c.lose_slot.ensures.members c.lose_slot.ensures.alone c.requires.role (ap holder recovers) (c.write_filled.ensures.failed c.if-write_filled.false) c.write_filled.ensures.counts) in
+    let lost : AreLost given shape m n c.lose_slot.result f0 f1 = lost-of given shape m n c.lose_slot.result f0 f1 c.requires.stands.placed
+    (slot_lost shape m n c.lose_slot.result slot role f0 f1 c.lose_slot.ensures.members c.lose_slot.ensures.alone c.requires.role (ap holder recovers) (c.write_filled.ensures.failed c.if-write_filled.false) c.write_filled.ensures.bank.counts) in
     let given1 = g.B.Bank.given c.write_filled.new.bank in
-    let same : given1 ≡ given = c.write_filled.ensures.given in
+    let same : given1 ≡ given = c.write_filled.ensures.bank.same in
     let q = c.record_missing.new.members in
     let named = c.record_missing.ensures in
-    let two : IsMoved given n q = moved-from given given1 n n q same refl named.moved in
+    let two : IsMoved given n q = moved-from given given1 n n q same refl named.keeps.moved in
     let out = (recovering-after m c.lose_slot.result role slot (subst (λ (x : Members). role_state (reading_of x) role ≡ Recovering slot) c.lose_slot.ensures.members (recovering-before two role slot still))).1 in
     let gone : has_slot c.lose_slot.result slot ≡ true = c.lose_slot.ensures.alone slot ∙ eq-eqb slot slot refl in
     true-false (sym gone ∙ out)
@@ -231,10 +171,10 @@ returns-clause-others g c =
     let shape = c.args.shape.now in
     let found = found-in c.recovering_slot.result _ (c.is_none.ensures ∙ ap not c.if-is_none.false) c.recovering_slot.ensures.some in
     let recovers : role_state (reading_of m) role ≡ Recovering slot = subst (λ (s : ℕ). role_state (reading_of m) role ≡ Recovering s) (c.requires.recovering found.0 found.1) found.1 in
-    let lost : AreLost given shape m n c.lose_slot.result f0 f1 = lost-of given shape m n c.lose_slot.result f0 f1 c.requires.placed
-    (slot_lost shape m n c.lose_slot.result slot role f0 f1 c.lose_slot.ensures.members c.lose_slot.ensures.alone c.requires.role (ap holder recovers) (c.write_filled.ensures.failed c.if-write_filled.false) c.write_filled.ensures.counts) in
+    let lost : AreLost given shape m n c.lose_slot.result f0 f1 = lost-of given shape m n c.lose_slot.result f0 f1 c.requires.stands.placed
+    (slot_lost shape m n c.lose_slot.result slot role f0 f1 c.lose_slot.ensures.members c.lose_slot.ensures.alone c.requires.role (ap holder recovers) (c.write_filled.ensures.failed c.if-write_filled.false) c.write_filled.ensures.bank.counts) in
     let given1 = g.B.Bank.given c.write_filled.new.bank in
-    let same : given1 ≡ given = c.write_filled.ensures.given in
+    let same : given1 ≡ given = c.write_filled.ensures.bank.same in
     let named = c.record_missing.ensures in
     let tape0 = g.B.Bank.tape c.args.bank.now in
     let tape1 = g.B.Bank.tape c.write_filled.new.bank in
@@ -244,18 +184,6 @@ returns-clause-others g c =
       others-filled m role slot (Contains c.args.rows.now) (present given tape0) (present given tape1) (present given tape2) (c.write_filled.ensures.others told)
           (subst (λ (b : Given). AreOthersPresent (present b tape1) (present b tape2)) same (named.others told)),
     )
-
-pub returns-clause-grows : goal.returns-clause-grows
-returns-clause-grows g c =
-    grows-then c.write_filled.ensures.grows c.record_missing.ensures.grows
-
-pub returns-clause-rise : goal.returns-clause-rise
-returns-clause-rise g c =
-    let tape0 = g.B.Bank.tape c.args.bank.now in
-    let tape1 = g.B.Bank.tape c.write_filled.new.bank in
-    let risen1 : IsRisen g.B.Bank.tells c.args.members.now c.lose_slot.new.members tape0 tape1 =
-    risen-lost c.args.members.now c.lose_slot.new.members c.lose_slot.result tape0 tape1 c.lose_slot.ensures.members (grows-longer c.write_filled.ensures.grows) in
-    risen-then risen1 c.record_missing.ensures.rise
 
 pub returns-clause-safe : goal.returns-clause-safe
 returns-clause-safe g c =
@@ -270,32 +198,28 @@ returns-clause-safe g c =
     let shape = c.args.shape.now in
     let found = found-in c.recovering_slot.result _ (c.is_none.ensures ∙ ap not c.if-is_none.false) c.recovering_slot.ensures.some in
     let recovers : role_state (reading_of m) role ≡ Recovering slot = subst (λ (s : ℕ). role_state (reading_of m) role ≡ Recovering s) (c.requires.recovering found.0 found.1) found.1 in
-    let lost : AreLost given shape m n c.lose_slot.result f0 f1 = lost-of given shape m n c.lose_slot.result f0 f1 c.requires.placed
-    (slot_lost shape m n c.lose_slot.result slot role f0 f1 c.lose_slot.ensures.members c.lose_slot.ensures.alone c.requires.role (ap holder recovers) (c.write_filled.ensures.failed c.if-write_filled.false) c.write_filled.ensures.counts) in
+    let lost : AreLost given shape m n c.lose_slot.result f0 f1 = lost-of given shape m n c.lose_slot.result f0 f1 c.requires.stands.placed
+    (slot_lost shape m n c.lose_slot.result slot role f0 f1 c.lose_slot.ensures.members c.lose_slot.ensures.alone c.requires.role (ap holder recovers) (c.write_filled.ensures.failed c.if-write_filled.false) c.write_filled.ensures.bank.counts) in
     let given1 = g.B.Bank.given c.write_filled.new.bank in
-    let same : given1 ≡ given = c.write_filled.ensures.given in
+    let same : given1 ≡ given = c.write_filled.ensures.bank.same in
     let q = c.record_missing.new.members in
     let named = c.record_missing.ensures in
     let tape0 = g.B.Bank.tape c.args.bank.now in
     let tape1 = g.B.Bank.tape c.write_filled.new.bank in
     let tape2 = g.B.Bank.tape c.record_missing.new.bank in
-    let risen1 : IsRisen g.B.Bank.tells m n tape0 tape1 = risen-lost m n c.lose_slot.result tape0 tape1 c.lose_slot.ensures.members (grows-longer c.write_filled.ensures.grows) in
-    let first : KeepsSafe world given ledger m tape0 tape1 = safe-filled (OpensFit world) world.scope given ledger m role slot tape0 tape1 told c.requires.placed c.requires.unlost recovers c.write_filled.ensures.each_mark safe in
+    let risen1 : IsRisen g.B.Bank.tells m n tape0 tape1 = risen-lost m n c.lose_slot.result tape0 tape1 c.lose_slot.ensures.members (grows-longer c.write_filled.ensures.bank.grows) in
+    let first : KeepsSafe world given ledger m tape0 tape1 = safe-filled (OpensFit world) world.scope given ledger m role slot tape0 tape1 told c.requires.stands.placed c.requires.stands.unlost recovers c.write_filled.ensures.each_mark safe in
     let second : KeepsSafe world given ledger n tape0 tape1 = safe-then (OpensFit world) world.scope given ledger m n tape0 tape1 tape1 first (safe-lost (OpensFit world) world.scope given ledger m n c.lose_slot.result tape1 tape1 c.lose_slot.ensures.members refl first.next) in
     let unclean2 : IsUncleanTold ledger n = λ dirty. unclean (sym (ap (λ (x : Members). is_clean x.newest) c.lose_slot.ensures.members) ∙ dirty) in
     let third : KeepsSafe world given ledger q tape1 tape2 = keeps-from world given given1 ledger q tape1 tape2 same
     (named.safe told world ledger (room-then tape2 told room risen1) missing unclean2 (over-at world given given1 ledger n tape1 same second.next)) in
     safe-then (OpensFit world) world.scope given ledger n q tape0 tape1 tape2 second third
 
-pub returns-clause-counts : goal.returns-clause-counts
-returns-clause-counts g c =
-    λ slot. le_trans (c.write_filled.ensures.counts slot) (c.record_missing.ensures.counts slot)
-
 pub lose_slot-requires-clause-few : goal.lose_slot-requires-clause-few
-lose_slot-requires-clause-few g c = let roles = few (g.B.Bank.given c.args.bank.now) c.args.members.now c.requires.placed in omega (arith, roles)
+lose_slot-requires-clause-few g c = let roles = few (g.B.Bank.given c.args.bank.now) c.args.members.now c.requires.stands.placed in omega (arith, roles)
 
 pub write_filled-requires-clause-placed : goal.write_filled-requires-clause-placed
-write_filled-requires-clause-placed g c = c.requires.placed
+write_filled-requires-clause-placed g c = c.requires.stands.placed
 
 pub write_filled-requires-clause-shape : goal.write_filled-requires-clause-shape
 write_filled-requires-clause-shape g c = c.requires.shape
@@ -325,12 +249,8 @@ write_filled-requires-clause-held g c =
     let found = found-in c.recovering_slot.result _ (c.is_none.ensures ∙ ap not c.if-is_none.false) c.recovering_slot.ensures.some in
     c.requires.held (subst (λ (s : ℕ). role_state (reading_of c.args.members.now) c.args.target.now.role ≡ Recovering s) (c.requires.recovering found.0 found.1) found.1)
 
-pub returns-then-is_none-clause-moved : goal.returns-then-is_none-clause-moved
-returns-then-is_none-clause-moved g c =
-    moved-same (g.B.Bank.given c.args.bank.now) (g.B.Bank.given c.args.bank.now) c.args.members.now c.args.members.now refl refl c.requires.placed c.requires.unlost
-
-pub returns-then-is_none-clause-failed : goal.returns-then-is_none-clause-failed
-returns-then-is_none-clause-failed g c = since-same c.args.members.now (g.B.Bank.faults_of c.args.bank.now) (g.B.Bank.faults_of c.args.bank.now)
+pub returns-then-is_none-clause-keeps : goal.returns-then-is_none-clause-keeps
+returns-then-is_none-clause-keeps g c = members-none c.args.bank.now c.args.members.now c.requires.stands
 
 pub returns-then-is_none-clause-written : goal.returns-then-is_none-clause-written
 returns-then-is_none-clause-written g c recovers told list own i low held =
@@ -339,38 +259,21 @@ returns-then-is_none-clause-written g c recovers told list own i low held =
 pub returns-then-is_none-clause-others : goal.returns-then-is_none-clause-others
 returns-then-is_none-clause-others g c told = inl refl
 
-pub returns-then-is_none-clause-grows : goal.returns-then-is_none-clause-grows
-returns-then-is_none-clause-grows g c = grows-none (λ told. refl)
-
-pub returns-then-write_filled-clause-moved : goal.returns-then-write_filled-clause-moved
-returns-then-write_filled-clause-moved g c =
-    moved-same (g.B.Bank.given c.args.bank.now) (g.B.Bank.given c.args.bank.now) c.args.members.now c.args.members.now refl refl c.requires.placed c.requires.unlost
-
-pub returns-then-write_filled-clause-failed : goal.returns-then-write_filled-clause-failed
-returns-then-write_filled-clause-failed g c = since-same c.args.members.now (g.B.Bank.faults_of c.args.bank.now) (g.B.Bank.faults_of c.write_filled.new.bank)
+pub returns-then-write_filled-clause-keeps : goal.returns-then-write_filled-clause-keeps
+returns-then-write_filled-clause-keeps g c = record {
+  bank = record { same = c.write_filled.ensures.bank.same; grows = c.write_filled.ensures.bank.grows; counts = c.write_filled.ensures.bank.counts };
+  moved = moved-same (g.B.Bank.given c.args.bank.now) (g.B.Bank.given c.args.bank.now) c.args.members.now c.args.members.now refl refl c.requires.stands.placed c.requires.stands.unlost;
+  failed = since-same c.args.members.now (g.B.Bank.faults_of c.args.bank.now) (g.B.Bank.faults_of c.write_filled.new.bank);
+  rise = risen-none c.args.members.now (g.B.Bank.tape c.args.bank.now) (g.B.Bank.tape c.write_filled.new.bank) (grows-longer c.write_filled.ensures.bank.grows);
+}
 
 pub returns-then-write_filled-clause-others : goal.returns-then-write_filled-clause-others
 returns-then-write_filled-clause-others g c told =
     let found = found-in c.recovering_slot.result _ (c.is_none.ensures ∙ ap not c.if-is_none.false) c.recovering_slot.ensures.some in
     inr (subst (λ (s : ℕ). role_state (reading_of c.args.members.now) c.args.target.now.role ≡ Recovering s) (c.requires.recovering found.0 found.1) found.1, c.write_filled.ensures.others told)
 
-pub returns-then-write_filled-clause-rise : goal.returns-then-write_filled-clause-rise
-returns-then-write_filled-clause-rise g c = risen-none c.args.members.now (g.B.Bank.tape c.args.bank.now) (g.B.Bank.tape c.write_filled.new.bank) (grows-longer c.write_filled.ensures.grows)
-
-pub returns-then-write_filled-clause-grows : goal.returns-then-write_filled-clause-grows
-returns-then-write_filled-clause-grows g c = c.write_filled.ensures.grows
-
-pub returns-then-write_filled-clause-given : goal.returns-then-write_filled-clause-given
-returns-then-write_filled-clause-given g c = c.write_filled.ensures.given
-
-pub returns-then-write_filled-clause-counts : goal.returns-then-write_filled-clause-counts
-returns-then-write_filled-clause-counts g c = c.write_filled.ensures.counts
-
 pub returns-then-write_filled-clause-size : goal.returns-then-write_filled-clause-size
 returns-then-write_filled-clause-size g c = c.write_filled.ensures.size
-
-pub returns-clause-given : goal.returns-clause-given
-returns-clause-given g c = c.record_missing.ensures.given ∙ c.write_filled.ensures.given
 
 pub returns-clause-size : goal.returns-clause-size
 returns-clause-size g c = c.write_filled.ensures.size

@@ -27,8 +27,12 @@ returns-then-not-fill_row-clause-each_mark g c =
     marks-then (g.B.Bank.given c.args.bank.now) (g.B.Bank.given c.loop-i.bank) c.loop-i.invariant.given c.args.members.now c.args.target.now.role c.args.target.now.slot
     (g.B.Bank.tape c.args.bank.now) (g.B.Bank.tape c.loop-i.bank) (g.B.Bank.tape c.fill_row.new.bank) c.loop-i.invariant.marks c.fill_row.ensures.each_mark
 
-pub returns-then-not-fill_row-clause-grows : goal.returns-then-not-fill_row-clause-grows
-returns-then-not-fill_row-clause-grows g c = grows-then c.loop-i.invariant.grows c.fill_row.ensures.grows
+pub returns-then-not-fill_row-clause-bank : goal.returns-then-not-fill_row-clause-bank
+returns-then-not-fill_row-clause-bank g c = record {
+  same = c.fill_row.ensures.bank.same ∙ c.loop-i.invariant.given;
+  grows = grows-then c.loop-i.invariant.grows c.fill_row.ensures.bank.grows;
+  counts = λ s. le_trans (c.loop-i.invariant.never_falls s) (c.fill_row.ensures.bank.counts s);
+}
 
 pub loop-i-preserved : goal.loop-i-preserved
 loop-i-preserved g c =
@@ -64,9 +68,9 @@ loop-i-preserved g c =
           sector-part_other c.loop-i.buffer c.fill_row.new.bytes i (16 * j + r) (512 * shape.disks) (omega (arith, few)) within
           (omega (arith, c.fill_row.auto.bytes, within)) (inr (omega (arith, le)))
           ∙ was.ahead j r (omega (arith, le)) lt is;
-      grows = grows-then was.grows did.grows;
-      given = did.given ∙ was.given;
-      never_falls = λ s. le_trans (was.never_falls s) (did.counts s);
+      grows = grows-then was.grows did.bank.grows;
+      given = did.bank.same ∙ was.given;
+      never_falls = λ s. le_trans (was.never_falls s) (did.bank.counts s);
     }
 
 pub loop-i-init : goal.loop-i-init
@@ -123,13 +127,7 @@ returns-then-not-fill_row-clause-failed g c lost =
     let slot = c.args.target.now.slot in
     let f1 = g.B.Bank.faults_of c.loop-i.bank in
     let f2 = g.B.Bank.faults_of c.fill_row.new.bank in
-    faulted_longer slot (g.B.Bank.faults_of c.args.bank.now) f1 f2 f2 (c.loop-i.invariant.never_falls slot) (le_refl _) (c.fill_row.ensures.counts slot) (c.fill_row.ensures.failed c.if-not-fill_row.true)
-
-pub returns-then-not-fill_row-clause-given : goal.returns-then-not-fill_row-clause-given
-returns-then-not-fill_row-clause-given g c = c.fill_row.ensures.given ∙ c.loop-i.invariant.given
-
-pub returns-then-not-fill_row-clause-counts : goal.returns-then-not-fill_row-clause-counts
-returns-then-not-fill_row-clause-counts g c s = le_trans (c.loop-i.invariant.never_falls s) (c.fill_row.ensures.counts s)
+    faulted_longer slot (g.B.Bank.faults_of c.args.bank.now) f1 f2 f2 (c.loop-i.invariant.never_falls slot) (le_refl _) (c.fill_row.ensures.bank.counts slot) (c.fill_row.ensures.failed c.if-not-fill_row.true)
 
 pub returns-clause-each_mark : goal.returns-clause-each_mark
 returns-clause-each_mark g c = c.loop-i.invariant.marks
@@ -140,14 +138,12 @@ returns-clause-written g c done told list own i low held = c.loop-i.invariant.do
 pub returns-clause-others : goal.returns-clause-others
 returns-clause-others g c = c.loop-i.invariant.others
 
-pub returns-clause-grows : goal.returns-clause-grows
-returns-clause-grows g c = c.loop-i.invariant.grows
-
-pub returns-clause-given : goal.returns-clause-given
-returns-clause-given g c = c.loop-i.invariant.given
-
-pub returns-clause-counts : goal.returns-clause-counts
-returns-clause-counts g c = c.loop-i.invariant.never_falls
+pub returns-clause-bank : goal.returns-clause-bank
+returns-clause-bank g c = record {
+  same = c.loop-i.invariant.given;
+  grows = c.loop-i.invariant.grows;
+  counts = c.loop-i.invariant.never_falls;
+}
 
 pub slice_bounds-part-end : goal.slice_bounds-part-end
 slice_bounds-part-end g c =

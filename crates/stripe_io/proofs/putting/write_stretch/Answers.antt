@@ -9,47 +9,22 @@ use Rattle.sb_safe_updates.specs.stripe_row_Rows.{present}
 use Rattle.sb_safe_updates.specs.array_members_Placed.{AreLost}
 use Rattle.sb_safe_updates.specs.array_members_Lacking.{AreRowsWritten, LacksTooMany}
 use Rattle.sb_safe_updates.proofs.array_members_MemberLaws.{are_lost}
-use Rattle.sb_safe_updates.proofs.array_members_MovedLaws.{moved-lost, lost-none}
+use Rattle.sb_safe_updates.proofs.array_members_MovedLaws.{lost-none}
 use Rattle.sb_safe_updates.proofs.array_members_MarkedLaws.{grows-marks}
-use Rattle.sb_safe_updates.proofs.array_members_LackingLaws.{since-lost, too-many-answer}
+use Rattle.sb_safe_updates.proofs.array_members_LackingLaws.{too-many-answer}
 use Rattle.sb_safe_updates.proofs.array_members_Fit.{has-rows, force-valid}
 use Rattle.sb_safe_updates.proofs.array_members_LackingWrites.{list-in, list-in-is, list-with, list-with-is}
 use Rattle.sb_safe_updates.specs.history_Sound.{OpensFit}
-use Rattle.sb_safe_updates.proofs.crash_safety_laws_Risen.{risen-lost}
 use Rattle.sb_safe_updates.proofs.array_members_SafeStretch.{safe-put}
 use Rattle.sb_safe_updates.proofs.Unused.{unused-role}
 use Rattle.stripe_io.proofs.CallLaws.{roles-left}
 use Rattle.sb_safe_updates.specs.sb_specs_the_Members.{Members}
 use Rattle.sb_safe_updates.specs.sb_specs_Reading.{is_clean}
+use Rattle.sb_safe_updates.proofs.FrameLaws.{keeps-lost}
 use Rattle.stripe_io.proofs.putting.write_stretch.Goals as goal
 
 pub write_touched-written-requires-clause-rows : goal.write_touched-written-requires-clause-rows
-write_touched-written-requires-clause-rows g c = has-rows (g.B.Bank.given c.args.bank.now) c.args.members.now c.requires.placed c.args.shape.now c.requires.shape
-
-pub returns-clause-moved : goal.returns-clause-moved
-returns-clause-moved g c =
-    let m = c.args.members.now in
-    let n = c.write_touched-written.new.members in
-    let given = g.B.Bank.given c.args.bank.now in
-    let did = c.write_touched-written.ensures in
-    let f0 = g.B.Bank.faults_of c.args.bank.now in
-    let f1 = g.B.Bank.faults_of c.write_touched-written.new.bank in
-    let r = c.write_touched-written.result.lost in
-    let shape = c.args.shape.now in
-    let lost : AreLost given shape m n r f0 f1 = are_lost given shape m n r f0 f1 c.requires.placed did.lost.members did.lost.failed did.lost.never_falls in
-    moved-lost given shape m n r f0 f1 c.requires.placed lost c.requires.unlost
-
-pub returns-clause-failed : goal.returns-clause-failed
-returns-clause-failed g c =
-    let m = c.args.members.now in
-    let n = c.write_touched-written.new.members in
-    let given = g.B.Bank.given c.args.bank.now in
-    let did = c.write_touched-written.ensures in
-    let f0 = g.B.Bank.faults_of c.args.bank.now in
-    let f1 = g.B.Bank.faults_of c.write_touched-written.new.bank in
-    let r = c.write_touched-written.result.lost in
-    let shape = c.args.shape.now in
-    since-lost given shape m n r f0 f1 (are_lost given shape m n r f0 f1 c.requires.placed did.lost.members did.lost.failed did.lost.never_falls)
+write_touched-written-requires-clause-rows g c = has-rows (g.B.Bank.given c.args.bank.now) c.args.members.now c.requires.stands.placed c.args.shape.now c.requires.shape
 
 pub returns-clause-refused : goal.returns-clause-refused
 returns-clause-refused g c =
@@ -57,13 +32,6 @@ returns-clause-refused g c =
     let did = c.write_touched-written.ensures in
     subst (λ (o : Option Refusal). MatchOption o ⊤ (LacksTooMany c.args.shape.now n)) (sym c.refused_by-refusal.ensures)
     (too-many-answer n c.args.shape.now c.write_touched-written.result.answer did.answer)
-
-pub returns-clause-grows : goal.returns-clause-grows
-returns-clause-grows g c =
-    let shape = c.args.shape.now in
-    let list = list-in shape c.args.rows.now c.args.buffer.now.items in
-    grows-marks (c.write_touched-written.ensures.each_mark list (list-with list c.args.first c.args.from.now) (list-with-is list c.args.first c.args.from.now)
-    (λ told. list-in-is shape c.args.rows.now c.args.buffer.now.items c.args.start c.requires.once))
 
 pub returns-clause-written : goal.returns-clause-written
 returns-clause-written g c = λ told.
@@ -90,17 +58,8 @@ returns-clause-kept g c = λ whole.
     let f1 = g.B.Bank.faults_of c.write_touched-written.new.bank in
     let r = c.write_touched-written.result.lost in
     let shape = c.args.shape.now in
-    let lost : AreLost given shape m n r f0 f1 = are_lost given shape m n r f0 f1 c.requires.placed did.lost.members did.lost.failed did.lost.never_falls in
+    let lost : AreLost given shape m n r f0 f1 = are_lost given shape m n r f0 f1 c.requires.stands.placed did.lost.members did.lost.failed did.lost.never_falls in
     lost.kept (lost-none given shape m n r f0 f1 lost c.requires.shape whole)
-
-pub returns-clause-rise : goal.returns-clause-rise
-returns-clause-rise g c =
-    let shape = c.args.shape.now in
-    let list = list-in shape c.args.rows.now c.args.buffer.now.items in
-    let did = c.write_touched-written.ensures in
-    risen-lost c.args.members.now c.write_touched-written.new.members c.write_touched-written.result.lost (g.B.Bank.tape c.args.bank.now) (g.B.Bank.tape c.write_touched-written.new.bank) did.lost.members
-    (did.each_mark list (list-with list c.args.first c.args.from.now) (list-with-is list c.args.first c.args.from.now)
-    (λ told. list-in-is shape c.args.rows.now c.args.buffer.now.items c.args.start c.requires.once)).longer
 
 pub returns-clause-safe : goal.returns-clause-safe
 returns-clause-safe g c = λ told world ledger dirty region list list' w has allowed zeros safe.
@@ -109,27 +68,15 @@ returns-clause-safe g c = λ told world ledger dirty region list list' w has all
     let tape0 = g.B.Bank.tape c.args.bank.now in
     let tape1 = g.B.Bank.tape c.write_touched-written.new.bank in
     safe-put (OpensFit world) world.scope given ledger c.args.members.now c.write_touched-written.new.members c.write_touched-written.result.lost c.args.shape.now list' c.args.rows.now tape0 tape1 told
-    did.lost.members c.requires.placed dirty c.requires.unlost region allowed zeros
+    did.lost.members c.requires.stands.placed dirty c.requires.stands.unlost region allowed zeros
     (did.each_mark list list' w has) safe
 
--- rows are written to slots that hold roles alone
-pub returns-clause-unused : goal.returns-clause-unused
-returns-clause-unused g c = λ told s k v unused may.
-    let shape = c.args.shape.now in
-    let list = list-in shape c.args.rows.now c.args.buffer.now.items in
-    let kept = marks_last (c.write_touched-written.ensures.each_mark list (list-with list c.args.first c.args.from.now) (list-with-is list c.args.first c.args.from.now)
-    (λ told. list-in-is shape c.args.rows.now c.args.buffer.now.items c.args.start c.requires.once)) told in
-    elim (kept.0 s k) [
-      | inl same ↦ subst (λ (l : List Sector). IsIn l v) same may
-      | inr at ↦ absurd (unused-role (g.B.Bank.given c.args.bank.now) c.args.members.now c.requires.placed s unused at.role at.held)
-    ]
-
 pub refused_by-refusal-requires-clause-shape : goal.refused_by-refusal-requires-clause-shape
-refused_by-refusal-requires-clause-shape g c = force-valid c.args.members.now.newest c.requires.placed.fit c.args.shape.now c.requires.shape
+refused_by-refusal-requires-clause-shape g c = force-valid c.args.members.now.newest c.requires.stands.placed.fit c.args.shape.now c.requires.shape
 
 pub refused_by-refusal-requires-clause-roles : goal.refused_by-refusal-requires-clause-roles
 refused_by-refusal-requires-clause-roles g c =
-    roles-left (g.B.Bank.given c.args.bank.now) c.args.members.now c.write_touched-written.new.members c.write_touched-written.result.lost c.write_touched-written.ensures.lost.members c.requires.placed c.args.shape.now c.requires.shape
+    roles-left (g.B.Bank.given c.args.bank.now) c.args.members.now c.write_touched-written.new.members c.write_touched-written.result.lost c.write_touched-written.ensures.lost.members c.requires.stands.placed c.args.shape.now c.requires.shape
 
 pub write_touched-written-requires-clause-below : goal.write_touched-written-requires-clause-below
 write_touched-written-requires-clause-below g c = c.requires.below
@@ -144,10 +91,10 @@ pub write_touched-written-requires-clause-standing : goal.write_touched-written-
 write_touched-written-requires-clause-standing g c = c.requires.standing
 
 pub write_touched-written-requires-clause-behind : goal.write_touched-written-requires-clause-behind
-write_touched-written-requires-clause-behind g c = c.requires.placed.behind
+write_touched-written-requires-clause-behind g c = c.requires.stands.placed.behind
 
 pub write_touched-written-requires-clause-apart : goal.write_touched-written-requires-clause-apart
-write_touched-written-requires-clause-apart g c = c.requires.placed.apart
+write_touched-written-requires-clause-apart g c = c.requires.stands.placed.apart
 
 pub returns-clause-reached : goal.returns-clause-reached
 returns-clause-reached g c = c.write_touched-written.ensures.reached
@@ -155,14 +102,29 @@ returns-clause-reached g c = c.write_touched-written.ensures.reached
 pub returns-clause-within : goal.returns-clause-within
 returns-clause-within g c = c.write_touched-written.ensures.within
 
-pub returns-clause-given : goal.returns-clause-given
-returns-clause-given g c = c.write_touched-written.ensures.given
-
 pub returns-clause-size : goal.returns-clause-size
 returns-clause-size g c = c.write_touched-written.ensures.size
 
-pub returns-clause-counts : goal.returns-clause-counts
-returns-clause-counts g c = c.write_touched-written.ensures.lost.never_falls
-
 pub returns-clause-clean : goal.returns-clause-clean
 returns-clause-clean g c = ap (λ (x : Members). is_clean x.newest) c.write_touched-written.ensures.lost.members
+
+-- rows are written to slots that hold roles alone
+pub returns-clause-keeps : goal.returns-clause-keeps
+returns-clause-keeps g c =
+    let m = c.args.members.now in
+    let n = c.write_touched-written.new.members in
+    let given = g.B.Bank.given c.args.bank.now in
+    let did = c.write_touched-written.ensures in
+    let f0 = g.B.Bank.faults_of c.args.bank.now in
+    let f1 = g.B.Bank.faults_of c.write_touched-written.new.bank in
+    let r = c.write_touched-written.result.lost in
+    let shape = c.args.shape.now in
+    let list = list-in shape c.args.rows.now c.args.buffer.now.items in
+    let marks = did.each_mark list (list-with list c.args.first c.args.from.now) (list-with-is list c.args.first c.args.from.now)
+    (λ told. list-in-is shape c.args.rows.now c.args.buffer.now.items c.args.start c.requires.once) in
+    keeps-lost c.args.bank.now c.write_touched-written.new.bank shape m n r c.requires.stands
+    (are_lost given shape m n r f0 f1 c.requires.stands.placed did.lost.members did.lost.failed did.lost.never_falls) did.given (grows-marks marks)
+    (λ told s k v unused may. elim ((marks_last marks told).0 s k) [
+      | inl same ↦ subst (λ (l : List Sector). IsIn l v) same may
+      | inr at ↦ absurd (unused-role given m c.requires.stands.placed s unused at.role at.held)
+    ])

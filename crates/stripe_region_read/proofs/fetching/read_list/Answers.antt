@@ -1,4 +1,4 @@
-use Rattle.std.proofs.Common.{◌≡◌, ◌≤◌, true, List, length, Option, Some, None, is_some, inl, inr, refl, sym, ◌∙◌, subst, arith, ap, le_trans}
+use Rattle.std.proofs.Common.{◌≡◌, ◌≤◌, true, List, length, Option, Some, None, is_some, inl, inr, sym, ◌∙◌, subst, arith, ap}
 use Rattle.stripe_io.specs.bank_the_Operation.{Operation}
 use Rattle.stripe_io.specs.bank_Given.{Given}
 use Rattle.stripe_io.specs.raid_types_the_Refusal.{Refusal}
@@ -7,17 +7,14 @@ use Rattle.stripe_io.specs.stripe_row_Rows.{present}
 use Rattle.stripe_io.specs.history_Sound.{OpensFit}
 use Rattle.stripe_io.specs.crash_safety_laws_Steady.{IsUncleanTold}
 use Rattle.stripe_io.specs.crash_safety_laws_Marking.{AreOthersPresent}
-use Rattle.stripe_io.proofs.crash_safety_laws_Risen.{risen-then, risen-lost, room-then}
-use Rattle.stripe_io.specs.array_members_Rebuilding.{AreSparesFree}
-use Rattle.stripe_io.proofs.array_members_MovedLaws.{moved-then, moved-from, grows-none, grows-then}
-use Rattle.stripe_io.proofs.array_members_LackingLaws.{since-then, in-second}
+use Rattle.stripe_io.proofs.crash_safety_laws_Risen.{risen-lost, room-then}
+use Rattle.stripe_io.proofs.array_members_LackingLaws.{in-second}
 use Rattle.stripe_io.proofs.array_members_SafeStretch.{safe-then, safe-lost, over-at, keeps-from}
 use Rattle.stripe_io.proofs.array_members_LackingLists.{none-of}
-use Rattle.stripe_io.proofs.UnusedReads.{read-unused, named-unused}
 use mathlib.Core.List.{not-mem-nil}
 use Rattle.stripe_io.specs.sb_specs_Reading.{is_clean}
-use Rattle.stripe_io.specs.array_members_Placed.{IsPlaced}
-use Rattle.stripe_io.specs.array_members_Moving.{Grows}
+use Rattle.stripe_io.specs.sb_safe_updates_Frame.{Keeps}
+use Rattle.stripe_io.proofs.sb_safe_updates_FrameLaws.{keeps-read, keeps-then, stands-on}
 use Rattle.stripe_region_read.proofs.fetching.read_list.Goals as goal
 
 -- the reads make no operation
@@ -32,18 +29,12 @@ never (Some refusal) is none = absurd (cc)
 pub returns-then-is_some-clause-holds : goal.returns-then-is_some-clause-holds
 returns-then-is_some-clause-holds g c = λ none. absurd (never c.read_regions-refusal.result (sym c.is_some.ensures ∙ c.if-is_some.true) none)
 
-pub returns-then-is_some-clause-grows : goal.returns-then-is_some-clause-grows
-returns-then-is_some-clause-grows g c =
-    grows-none c.read_regions-refusal.ensures.tape
-
-pub returns-then-is_some-clause-rise : goal.returns-then-is_some-clause-rise
-returns-then-is_some-clause-rise g c =
-    let m = c.args.members.now in
-    let n = c.read_regions-refusal.new.members in
-    let tape0 = g.B.Bank.tape c.args.bank.now in
-    let tape1 = g.B.Bank.tape c.read_regions-refusal.new.bank in
+pub returns-then-is_some-clause-keeps : goal.returns-then-is_some-clause-keeps
+returns-then-is_some-clause-keeps g c =
     let did = c.read_regions-refusal.ensures in
-    risen-lost m n did.lost.0 tape0 tape1 did.lost.1 (λ t. still-long tape0 tape1 (did.tape t))
+    let read : Keeps g.B.Bank.tells g.B.Bank.given g.B.Bank.tape g.B.Bank.faults_of c.args.bank.now c.read_regions-refusal.new.bank c.args.members.now c.read_regions-refusal.new.members 0 =
+    keeps-read did.lost.0 did.lost.1 did.tape did.given did.counts did.moved did.failed in
+    read
 
 pub returns-then-is_some-clause-safe : goal.returns-then-is_some-clause-safe
 returns-then-is_some-clause-safe g c =
@@ -55,39 +46,19 @@ returns-then-is_some-clause-safe g c =
     let did = c.read_regions-refusal.ensures in
     λ tell world told room gone unclean now. safe-lost (OpensFit world) world.scope given told m n did.lost.0 tape0 tape1 did.lost.1 (did.tape tell) now
 
-pub returns-then-is_some-clause-unused : goal.returns-then-is_some-clause-unused
-returns-then-is_some-clause-unused g c = λ told.
-    read-unused c.args.members.now (g.B.Bank.given c.args.bank.now).start (g.B.Bank.tape c.args.bank.now) (g.B.Bank.tape c.read_regions-refusal.new.bank) (c.read_regions-refusal.ensures.tape told)
-
-pub record_missing-spares-requires-clause-free : goal.record_missing-spares-requires-clause-free
-record_missing-spares-requires-clause-free g c =
-    let n = c.read_regions-refusal.new.members in
+pub record_missing-spares-requires : goal.record_missing-spares-requires
+record_missing-spares-requires g c =
     let did = c.read_regions-refusal.ensures in
-    subst (λ (b : Given). AreSparesFree b n) (sym did.given) (did.moved.free c.requires.free)
+    let read : Keeps g.B.Bank.tells g.B.Bank.given g.B.Bank.tape g.B.Bank.faults_of c.args.bank.now c.read_regions-refusal.new.bank c.args.members.now c.read_regions-refusal.new.members 0 =
+    keeps-read did.lost.0 did.lost.1 did.tape did.given did.counts did.moved did.failed in
+    record { stands = stands-on read c.requires.stands }
 
-pub returns-clause-moved : goal.returns-clause-moved
-returns-clause-moved g c =
-    let m = c.args.members.now in
-    let n = c.read_regions-refusal.new.members in
-    let given = g.B.Bank.given c.args.bank.now in
-    let given1 = g.B.Bank.given c.read_regions-refusal.new.bank in
+pub returns-clause-keeps : goal.returns-clause-keeps
+returns-clause-keeps g c =
     let did = c.read_regions-refusal.ensures in
-    let p = c.record_missing-spares.new.members in
-    let named = c.record_missing-spares.ensures in
-    moved-then given m n p did.moved (moved-from given given1 n n p did.given refl named.moved)
-
-pub returns-clause-failed : goal.returns-clause-failed
-returns-clause-failed g c =
-    let m = c.args.members.now in
-    let n = c.read_regions-refusal.new.members in
-    let did = c.read_regions-refusal.ensures in
-    let p = c.record_missing-spares.new.members in
-    let named = c.record_missing-spares.ensures in
-    let f0 = g.B.Bank.faults_of c.args.bank.now in
-    let f1 = g.B.Bank.faults_of c.read_regions-refusal.new.bank in
-    let f2 = g.B.Bank.faults_of c.record_missing-spares.new.bank in
-    let s = c.record_missing-spares.result in
-    since-then m n p 0 s s f0 f1 f2 did.counts named.counts did.failed named.failed (in-second s)
+    let read : Keeps g.B.Bank.tells g.B.Bank.given g.B.Bank.tape g.B.Bank.faults_of c.args.bank.now c.read_regions-refusal.new.bank c.args.members.now c.read_regions-refusal.new.members 0 =
+    keeps-read did.lost.0 did.lost.1 did.tape did.given did.counts did.moved did.failed in
+    keeps-then read c.record_missing-spares.ensures.keeps (in-second c.record_missing-spares.result)
 
 pub returns-clause-others : goal.returns-clause-others
 returns-clause-others g c =
@@ -99,40 +70,24 @@ returns-clause-others g c =
     λ told. subst (λ (l : List Operation). AreOthersPresent (present given l) (present given tape2)) (did.tape told)
     (subst (λ (b : Given). AreOthersPresent (present b tape1) (present b tape2)) did.given (named.others told))
 
-pub returns-clause-unused : goal.returns-clause-unused
-returns-clause-unused g c = λ told.
-    let did = c.read_regions-refusal.ensures in
-    named-unused (g.B.Bank.given c.args.bank.now) (g.B.Bank.given c.read_regions-refusal.new.bank) c.args.members.now c.read_regions-refusal.new.members
-    (g.B.Bank.tape c.args.bank.now) (g.B.Bank.tape c.read_regions-refusal.new.bank) (g.B.Bank.tape c.record_missing-spares.new.bank) (did.tape told) did.given did.moved (c.record_missing-spares.ensures.rest told)
-
 pub returns-clause-holds : goal.returns-clause-holds
 returns-clause-holds g c =
     let did = c.read_regions-refusal.ensures in
     let named = c.record_missing-spares.ensures in
     λ ok told hidden list stands fills i lt shown.
-    did.holds (none-of c.read_regions-refusal.result (sym c.is_some.ensures ∙ c.if-is_some.false)) told hidden list stands (elim fills [ inl whole ↦ inl (named.moved.whole whole) | inr rows ↦ inr rows ]) i lt shown
+    did.holds (none-of c.read_regions-refusal.result (sym c.is_some.ensures ∙ c.if-is_some.false)) told hidden list stands (elim fills [ inl whole ↦ inl (named.keeps.moved.whole whole) | inr rows ↦ inr rows ]) i lt shown
 
 pub returns-clause-kept : goal.returns-clause-kept
 returns-clause-kept g c =
     let did = c.read_regions-refusal.ensures in
     let named = c.record_missing-spares.ensures in
-    λ whole. let mid = named.moved.whole whole in named.kept mid ∙ did.kept mid
+    λ whole. let mid = named.keeps.moved.whole whole in named.kept mid ∙ did.kept mid
 
 pub returns-clause-tape : goal.returns-clause-tape
 returns-clause-tape g c =
     let did = c.read_regions-refusal.ensures in
     let named = c.record_missing-spares.ensures in
-    λ whole told. named.tape (named.moved.whole whole) told ∙ did.tape told
-
-pub returns-clause-rise : goal.returns-clause-rise
-returns-clause-rise g c =
-    let m = c.args.members.now in
-    let n = c.read_regions-refusal.new.members in
-    let tape0 = g.B.Bank.tape c.args.bank.now in
-    let tape1 = g.B.Bank.tape c.read_regions-refusal.new.bank in
-    let did = c.read_regions-refusal.ensures in
-    let named = c.record_missing-spares.ensures in
-    risen-then (risen-lost m n did.lost.0 tape0 tape1 did.lost.1 (λ t. still-long tape0 tape1 (did.tape t))) named.rise
+    λ whole told. named.tape (named.keeps.moved.whole whole) told ∙ did.tape told
 
 pub returns-clause-safe : goal.returns-clause-safe
 returns-clause-safe g c =
@@ -153,15 +108,11 @@ returns-clause-safe g c =
     (named.safe tell world told (room-then tape2 tell room (risen-lost m n did.lost.0 tape0 tape1 did.lost.1 (λ t. still-long tape0 tape1 (did.tape t)))) gone
     (subst (λ (x : Members). IsUncleanTold told x) (sym did.lost.1) unclean) (over-at world given given1 told n tape1 did.given read.next)))
 
-pub returns-clause-counts : goal.returns-clause-counts
-returns-clause-counts g c =
-    λ s. le_trans (c.read_regions-refusal.ensures.counts s) (c.record_missing-spares.ensures.counts s)
-
 pub read_regions-refusal-requires-clause-placed : goal.read_regions-refusal-requires-clause-placed
-read_regions-refusal-requires-clause-placed g c = c.requires.placed
+read_regions-refusal-requires-clause-placed g c = c.requires.stands.placed
 
 pub read_regions-refusal-requires-clause-unlost : goal.read_regions-refusal-requires-clause-unlost
-read_regions-refusal-requires-clause-unlost g c = c.requires.unlost
+read_regions-refusal-requires-clause-unlost g c = c.requires.stands.unlost
 
 pub read_regions-refusal-requires-clause-into : goal.read_regions-refusal-requires-clause-into
 read_regions-refusal-requires-clause-into g c = c.requires.into
@@ -175,23 +126,11 @@ read_regions-refusal-requires-clause-scratch g c = c.requires.scratch
 pub is_some-requires : goal.is_some-requires
 is_some-requires g c κs a has = absurd (not-mem-nil has)
 
-pub returns-then-is_some-clause-moved : goal.returns-then-is_some-clause-moved
-returns-then-is_some-clause-moved g c = c.read_regions-refusal.ensures.moved
-
-pub returns-then-is_some-clause-failed : goal.returns-then-is_some-clause-failed
-returns-then-is_some-clause-failed g c = c.read_regions-refusal.ensures.failed
-
 pub returns-then-is_some-clause-refused : goal.returns-then-is_some-clause-refused
 returns-then-is_some-clause-refused g c = c.read_regions-refusal.ensures.refused
 
 pub returns-then-is_some-clause-kept : goal.returns-then-is_some-clause-kept
 returns-then-is_some-clause-kept g c = c.read_regions-refusal.ensures.kept
-
-pub returns-then-is_some-clause-given : goal.returns-then-is_some-clause-given
-returns-then-is_some-clause-given g c = c.read_regions-refusal.ensures.given
-
-pub returns-then-is_some-clause-counts : goal.returns-then-is_some-clause-counts
-returns-then-is_some-clause-counts g c = c.read_regions-refusal.ensures.counts
 
 pub returns-then-is_some-clause-others : goal.returns-then-is_some-clause-others
 returns-then-is_some-clause-others g c told s k other = ap (λ (l : List Operation). present (g.B.Bank.given c.args.bank.now) l s k) (c.read_regions-refusal.ensures.tape told)
@@ -202,23 +141,5 @@ returns-then-is_some-clause-clean g c = ap (λ (x : Members). is_clean x.newest)
 pub returns-then-is_some-clause-tape : goal.returns-then-is_some-clause-tape
 returns-then-is_some-clause-tape g c whole = c.read_regions-refusal.ensures.tape
 
-pub record_missing-spares-requires-clause-slots : goal.record_missing-spares-requires-clause-slots
-record_missing-spares-requires-clause-slots g c = subst (λ (b : Given). b.slots ≤ 32) (sym c.read_regions-refusal.ensures.given) c.requires.slots
-
-pub record_missing-spares-requires-clause-placed : goal.record_missing-spares-requires-clause-placed
-record_missing-spares-requires-clause-placed g c =
-    subst (λ (b : Given). IsPlaced b c.read_regions-refusal.new.members) (sym c.read_regions-refusal.ensures.given) c.read_regions-refusal.ensures.moved.placed
-
-pub record_missing-spares-requires-clause-unlost : goal.record_missing-spares-requires-clause-unlost
-record_missing-spares-requires-clause-unlost g c = c.read_regions-refusal.ensures.moved.unlost
-
-pub returns-clause-grows : goal.returns-clause-grows
-returns-clause-grows g c =
-    let early : Grows g.B.Bank.tells (g.B.Bank.tape c.args.bank.now) (g.B.Bank.tape c.read_regions-refusal.new.bank) = grows-none c.read_regions-refusal.ensures.tape in
-    grows-then early c.record_missing-spares.ensures.grows
-
 pub returns-clause-clean : goal.returns-clause-clean
 returns-clause-clean g c = c.record_missing-spares.ensures.clean ∙ ap (λ (x : Members). is_clean x.newest) c.read_regions-refusal.ensures.lost.1
-
-pub returns-clause-given : goal.returns-clause-given
-returns-clause-given g c = c.record_missing-spares.ensures.given ∙ c.read_regions-refusal.ensures.given

@@ -1,10 +1,9 @@
-use Rattle.std.proofs.Common.{◌≡◌, ◌+◌, ◌/◌, ◌^◌, ◌<◌, ◌≤◌, List, length, inl, inr, refl, sym, ◌∙◌, subst, arith, ◌*◌, ap, le_trans}
+use Rattle.std.proofs.Common.{◌≡◌, ◌+◌, ◌/◌, ◌^◌, ◌<◌, ◌≤◌, List, length, inl, inr, refl, sym, ◌∙◌, subst, arith, ◌*◌, ap}
 use Rattle.stripe_io.specs.bank_the_Operation.{Operation}
 use Rattle.stripe_io.specs.bank_Given.{Given}
 use Rattle.stripe_io.specs.sb_specs_the_Members.{Members}
-use Rattle.stripe_io.specs.array_members_Placed.{AreWhole, IsPlaced, AreLost}
-use Rattle.stripe_io.specs.array_members_Rebuilding.{AreSparesFree}
-use Rattle.stripe_io.proofs.array_members_MovedLaws.{moved-lost, moved-then, lost-none, moved-from, grows-none, grows-then}
+use Rattle.stripe_io.specs.array_members_Placed.{AreWhole, AreLost}
+use Rattle.stripe_io.proofs.array_members_MovedLaws.{lost-none, grows-none}
 use Rattle.stripe_io.proofs.array_members_Fit.{force-valid, force-multiple, short}
 use Rattle.stripe_io.specs.raid_layout_Layout.{place}
 use Rattle.stripe_io.proofs.raid_layout_Places.{place-row_below}
@@ -14,29 +13,33 @@ use Rattle.stripe_io.specs.raid_types_Shapes.{data_disks, is_multiple}
 use Rattle.std.proofs.lemmas.Nat.{mul-le}
 use Rattle.stripe_io.specs.stripe_row_Rows.{present}
 use Rattle.stripe_io.specs.crash_safety_laws_Marking.{AreOthersPresent}
-use Rattle.stripe_io.specs.array_members_Moving.{Grows}
-use Rattle.stripe_io.proofs.array_members_LackingLaws.{since-lost, since-then, in-second}
+use Rattle.stripe_io.proofs.array_members_LackingLaws.{in-second}
 use Rattle.stripe_io.proofs.array_members_LackingWrites.{lost-of}
 use Rattle.stripe_io.proofs.sb_safe_updates_RefusingLaws.{read-cause, read-told, told-first, told-why, not-err}
 use Rattle.stripe_io.specs.history_Sound.{OpensFit}
 use Rattle.stripe_io.specs.crash_safety_laws_Steady.{IsUncleanTold}
 use Rattle.stripe_io.proofs.array_members_SafeStretch.{safe-then, safe-lost, over-at, keeps-from}
-use Rattle.stripe_io.proofs.crash_safety_laws_Risen.{risen-then, risen-lost, room-then}
+use Rattle.stripe_io.proofs.crash_safety_laws_Risen.{risen-lost, room-then}
 use Rattle.stripe_io.proofs.CallLaws.{roles-left}
 use Rattle.stripe_io.specs.sb_specs_Reading.{is_clean}
 use Rattle.std.specs.Prelude.{IsTrue}
+use Rattle.stripe_io.specs.sb_safe_updates_Frame.{Keeps}
+use Rattle.stripe_io.proofs.sb_safe_updates_FrameLaws.{keeps-lost, keeps-then, stands-on}
+use Rattle.stripe_io.proofs.UnusedReads.{read-unused}
 use Rattle.stripe_region_read.proofs.reading.read_listed.Goals as goal
 
-pub returns-then-is_err-clause-moved : goal.returns-then-is_err-clause-moved
-returns-then-is_err-clause-moved g c =
+pub returns-then-is_err-clause-keeps : goal.returns-then-is_err-clause-keeps
+returns-then-is_err-clause-keeps g c =
     let m = c.args.members.now in
     let n = c.read_parts-read.new.members in
     let given = g.B.Bank.given c.args.bank.now in
-    let f0 = g.B.Bank.faults_of c.args.bank.now in
-    let f1 = g.B.Bank.faults_of c.read_parts-read.new.bank in
+    let did = c.read_parts-read.ensures in
     let r = c.read_parts-read.result.lost in
-    let shape = c.args.shape.now in
-    moved-lost given shape m n r f0 f1 c.requires.placed (lost-of given shape m n r f0 f1 c.requires.placed c.read_parts-read.ensures.lost) c.requires.unlost
+    let read : Keeps g.B.Bank.tells g.B.Bank.given g.B.Bank.tape g.B.Bank.faults_of c.args.bank.now c.read_parts-read.new.bank m n 0 =
+    keeps-lost c.args.bank.now c.read_parts-read.new.bank c.args.shape.now m n r c.requires.stands
+    (lost-of given c.args.shape.now m n r (g.B.Bank.faults_of c.args.bank.now) (g.B.Bank.faults_of c.read_parts-read.new.bank) c.requires.stands.placed did.lost) did.given (grows-none did.tape)
+    (λ told. read-unused m given.start (g.B.Bank.tape c.args.bank.now) (g.B.Bank.tape c.read_parts-read.new.bank) (did.tape told)) in
+    read
 
 pub returns-then-is_err-clause-kept : goal.returns-then-is_err-clause-kept
 returns-then-is_err-clause-kept g c = λ whole.
@@ -47,69 +50,34 @@ returns-then-is_err-clause-kept g c = λ whole.
     let f1 = g.B.Bank.faults_of c.read_parts-read.new.bank in
     let r = c.read_parts-read.result.lost in
     let shape = c.args.shape.now in
-    let lost : AreLost given shape m n r f0 f1 = lost-of given shape m n r f0 f1 c.requires.placed c.read_parts-read.ensures.lost in
+    let lost : AreLost given shape m n r f0 f1 = lost-of given shape m n r f0 f1 c.requires.stands.placed c.read_parts-read.ensures.lost in
     lost.kept (lost-none given shape m n r f0 f1 lost c.requires.shape whole)
 
-pub record_missing-spares-requires-clause-placed : goal.record_missing-spares-requires-clause-placed
-record_missing-spares-requires-clause-placed g c =
+pub record_missing-spares-requires : goal.record_missing-spares-requires
+record_missing-spares-requires g c =
     let m = c.args.members.now in
     let n = c.read_parts-read.new.members in
     let given = g.B.Bank.given c.args.bank.now in
-    let f0 = g.B.Bank.faults_of c.args.bank.now in
-    let f1 = g.B.Bank.faults_of c.read_parts-read.new.bank in
+    let did = c.read_parts-read.ensures in
     let r = c.read_parts-read.result.lost in
-    let shape = c.args.shape.now in
-    let lost : AreLost given shape m n r f0 f1 = lost-of given shape m n r f0 f1 c.requires.placed c.read_parts-read.ensures.lost in
-    subst (λ (b : Given). IsPlaced b n) (sym c.read_parts-read.ensures.given) lost.placed
+    let read : Keeps g.B.Bank.tells g.B.Bank.given g.B.Bank.tape g.B.Bank.faults_of c.args.bank.now c.read_parts-read.new.bank m n 0 =
+    keeps-lost c.args.bank.now c.read_parts-read.new.bank c.args.shape.now m n r c.requires.stands
+    (lost-of given c.args.shape.now m n r (g.B.Bank.faults_of c.args.bank.now) (g.B.Bank.faults_of c.read_parts-read.new.bank) c.requires.stands.placed did.lost) did.given (grows-none did.tape)
+    (λ told. read-unused m given.start (g.B.Bank.tape c.args.bank.now) (g.B.Bank.tape c.read_parts-read.new.bank) (did.tape told)) in
+    record { stands = stands-on read c.requires.stands }
 
-pub record_missing-spares-requires-clause-unlost : goal.record_missing-spares-requires-clause-unlost
-record_missing-spares-requires-clause-unlost g c =
+pub returns-clause-keeps : goal.returns-clause-keeps
+returns-clause-keeps g c =
     let m = c.args.members.now in
     let n = c.read_parts-read.new.members in
     let given = g.B.Bank.given c.args.bank.now in
-    let f0 = g.B.Bank.faults_of c.args.bank.now in
-    let f1 = g.B.Bank.faults_of c.read_parts-read.new.bank in
+    let did = c.read_parts-read.ensures in
     let r = c.read_parts-read.result.lost in
-    let shape = c.args.shape.now in
-    (moved-lost given shape m n r f0 f1 c.requires.placed (lost-of given shape m n r f0 f1 c.requires.placed c.read_parts-read.ensures.lost) c.requires.unlost).unlost
-
-pub record_missing-spares-requires-clause-free : goal.record_missing-spares-requires-clause-free
-record_missing-spares-requires-clause-free g c =
-    let m = c.args.members.now in
-    let n = c.read_parts-read.new.members in
-    let given = g.B.Bank.given c.args.bank.now in
-    let f0 = g.B.Bank.faults_of c.args.bank.now in
-    let f1 = g.B.Bank.faults_of c.read_parts-read.new.bank in
-    let r = c.read_parts-read.result.lost in
-    let shape = c.args.shape.now in
-    subst (λ (b : Given). AreSparesFree b n) (sym c.read_parts-read.ensures.given)
-    ((moved-lost given shape m n r f0 f1 c.requires.placed (lost-of given shape m n r f0 f1 c.requires.placed c.read_parts-read.ensures.lost) c.requires.unlost).free c.requires.free)
-
-pub returns-clause-moved : goal.returns-clause-moved
-returns-clause-moved g c =
-    let m = c.args.members.now in
-    let n = c.read_parts-read.new.members in
-    let given = g.B.Bank.given c.args.bank.now in
-    let f0 = g.B.Bank.faults_of c.args.bank.now in
-    let f1 = g.B.Bank.faults_of c.read_parts-read.new.bank in
-    let r = c.read_parts-read.result.lost in
-    let shape = c.args.shape.now in
-    moved-then given m n c.record_missing-spares.new.members
-    (moved-lost given shape m n r f0 f1 c.requires.placed (lost-of given shape m n r f0 f1 c.requires.placed c.read_parts-read.ensures.lost) c.requires.unlost)
-    (moved-from given (g.B.Bank.given c.read_parts-read.new.bank) n n c.record_missing-spares.new.members c.read_parts-read.ensures.given refl c.record_missing-spares.ensures.moved)
-
-pub returns-clause-failed : goal.returns-clause-failed
-returns-clause-failed g c =
-    let m = c.args.members.now in
-    let n = c.read_parts-read.new.members in
-    let given = g.B.Bank.given c.args.bank.now in
-    let f0 = g.B.Bank.faults_of c.args.bank.now in
-    let f1 = g.B.Bank.faults_of c.read_parts-read.new.bank in
-    let f2 = g.B.Bank.faults_of c.record_missing-spares.new.bank in
-    let r = c.read_parts-read.result.lost in
-    let shape = c.args.shape.now in
-    since-then m n c.record_missing-spares.new.members 0 c.record_missing-spares.result c.record_missing-spares.result f0 f1 f2 c.read_parts-read.ensures.lost.never_falls c.record_missing-spares.ensures.counts
-    (since-lost given shape m n r f0 f1 (lost-of given shape m n r f0 f1 c.requires.placed c.read_parts-read.ensures.lost)) c.record_missing-spares.ensures.failed (in-second c.record_missing-spares.result)
+    let read : Keeps g.B.Bank.tells g.B.Bank.given g.B.Bank.tape g.B.Bank.faults_of c.args.bank.now c.read_parts-read.new.bank m n 0 =
+    keeps-lost c.args.bank.now c.read_parts-read.new.bank c.args.shape.now m n r c.requires.stands
+    (lost-of given c.args.shape.now m n r (g.B.Bank.faults_of c.args.bank.now) (g.B.Bank.faults_of c.read_parts-read.new.bank) c.requires.stands.placed did.lost) did.given (grows-none did.tape)
+    (λ told. read-unused m given.start (g.B.Bank.tape c.args.bank.now) (g.B.Bank.tape c.read_parts-read.new.bank) (did.tape told)) in
+    keeps-then read c.record_missing-spares.ensures.keeps (in-second c.record_missing-spares.result)
 
 pub returns-then-is_err-clause-first : goal.returns-then-is_err-clause-first
 returns-then-is_err-clause-first g c = told-first c.unread-refusal.result c.unread-refusal.ensures
@@ -131,10 +99,10 @@ returns-clause-holds g c = λ ok told list stands fills i lt.
     let shape = c.args.shape.now in
     let x = c.args.first + i in
     let touch : IsTouched shape c.args.first (length c.args.into.now / 512) (place shape x).row = (x, omega arith, omega (arith, lt), refl) in
-    let below : (place shape x).row < m.newest.size = place-row_below shape (force-valid m.newest c.requires.placed.fit shape c.requires.shape) x m.newest.size
-    (force-multiple m.newest c.requires.placed.fit shape c.requires.shape) (omega (arith, lt, c.requires.within)) in
+    let below : (place shape x).row < m.newest.size = place-row_below shape (force-valid m.newest c.requires.stands.placed.fit shape c.requires.shape) x m.newest.size
+    (force-multiple m.newest c.requires.stands.placed.fit shape c.requires.shape) (omega (arith, lt, c.requires.within)) in
     not-err c.read_parts-read.result.answer (sym c.is_err.ensures.value ∙ c.if-is_err.false) c.read_parts-read.ensures.sectors told list i lt (stands (place shape x).row touch below)
-    (λ low. elim fills [ inl whole ↦ inl (c.record_missing-spares.ensures.moved.whole whole) | inr rows ↦ inr (rows (place shape x).row (touch, low) below) ])
+    (λ low. elim fills [ inl whole ↦ inl (c.record_missing-spares.ensures.keeps.moved.whole whole) | inr rows ↦ inr (rows (place shape x).row (touch, low) below) ])
 
 pub returns-clause-kept : goal.returns-clause-kept
 returns-clause-kept g c = λ whole.
@@ -145,28 +113,13 @@ returns-clause-kept g c = λ whole.
     let f1 = g.B.Bank.faults_of c.read_parts-read.new.bank in
     let r = c.read_parts-read.result.lost in
     let shape = c.args.shape.now in
-    let lost : AreLost given shape m n r f0 f1 = lost-of given shape m n r f0 f1 c.requires.placed c.read_parts-read.ensures.lost in
-    let mid : AreWhole n = c.record_missing-spares.ensures.moved.whole whole in
+    let lost : AreLost given shape m n r f0 f1 = lost-of given shape m n r f0 f1 c.requires.stands.placed c.read_parts-read.ensures.lost in
+    let mid : AreWhole n = c.record_missing-spares.ensures.keeps.moved.whole whole in
     c.record_missing-spares.ensures.kept mid ∙ lost.kept (lost-none given shape m n r f0 f1 lost c.requires.shape mid)
 
 -- the reads make no operation
 still-long : (before after : List Operation) → after ≡ before → length before ≤ length after
 still-long before after same = subst (λ (l : List Operation). length before ≤ length l) (sym same) (omega arith)
-
-pub returns-then-is_err-clause-rise : goal.returns-then-is_err-clause-rise
-returns-then-is_err-clause-rise g c =
-    let tape0 = g.B.Bank.tape c.args.bank.now in
-    let tape1 = g.B.Bank.tape c.read_parts-read.new.bank in
-    let did = c.read_parts-read.ensures in
-    risen-lost c.args.members.now c.read_parts-read.new.members c.read_parts-read.result.lost tape0 tape1 did.lost.members (λ t. still-long tape0 tape1 (did.tape t))
-
-pub returns-clause-rise : goal.returns-clause-rise
-returns-clause-rise g c =
-    let tape0 = g.B.Bank.tape c.args.bank.now in
-    let tape1 = g.B.Bank.tape c.read_parts-read.new.bank in
-    let did = c.read_parts-read.ensures in
-    risen-then (risen-lost c.args.members.now c.read_parts-read.new.members c.read_parts-read.result.lost tape0 tape1 did.lost.members (λ t. still-long tape0 tape1 (did.tape t)))
-    c.record_missing-spares.ensures.rise
 
 pub returns-then-is_err-clause-safe : goal.returns-then-is_err-clause-safe
 returns-then-is_err-clause-safe g c = λ tell world told room gone unclean now.
@@ -196,29 +149,10 @@ first_read_refusal-refusal-requires-clause-short g c =
     let m = c.args.members.now in
     let given = g.B.Bank.given c.args.bank.now in
     let shape = c.args.shape.now in
-    let most = (limited shape (force-valid m.newest c.requires.placed.fit shape c.requires.shape)).most in
+    let most = (limited shape (force-valid m.newest c.requires.stands.placed.fit shape c.requires.shape)).most in
     let few : data_disks shape ≤ 16 = omega (arith, most) in
-    let all = mul-le (data_disks shape) m.newest.size 16 (2 ^ 48) few (short given m c.requires.placed) in
+    let all = mul-le (data_disks shape) m.newest.size 16 (2 ^ 48) few (short given m c.requires.stands.placed) in
     omega (arith, all, c.requires.within)
-
-pub returns-then-is_err-clause-failed : goal.returns-then-is_err-clause-failed
-returns-then-is_err-clause-failed g c =
-    let m = c.args.members.now in
-    let n = c.read_parts-read.new.members in
-    let given = g.B.Bank.given c.args.bank.now in
-    let f0 = g.B.Bank.faults_of c.args.bank.now in
-    let f1 = g.B.Bank.faults_of c.read_parts-read.new.bank in
-    let r = c.read_parts-read.result.lost in
-    let shape = c.args.shape.now in
-    since-lost given shape m n r f0 f1 (lost-of given shape m n r f0 f1 c.requires.placed c.read_parts-read.ensures.lost)
-
-pub returns-then-is_err-clause-grows : goal.returns-then-is_err-clause-grows
-returns-then-is_err-clause-grows g c = grows-none c.read_parts-read.ensures.tape
-
-pub returns-clause-grows : goal.returns-clause-grows
-returns-clause-grows g c =
-    let early : Grows g.B.Bank.tells (g.B.Bank.tape c.args.bank.now) (g.B.Bank.tape c.read_parts-read.new.bank) = grows-none c.read_parts-read.ensures.tape in
-    grows-then early c.record_missing-spares.ensures.grows
 
 pub returns-clause-others : goal.returns-clause-others
 returns-clause-others g c = λ told.
@@ -229,15 +163,15 @@ returns-clause-others g c = λ told.
     (subst (λ (b : Given). AreOthersPresent (present b tape1) (present b tape2)) c.read_parts-read.ensures.given (c.record_missing-spares.ensures.others told))
 
 pub first_read_refusal-refusal-requires-clause-shape : goal.first_read_refusal-refusal-requires-clause-shape
-first_read_refusal-refusal-requires-clause-shape g c = force-valid c.args.members.now.newest c.requires.placed.fit c.args.shape.now c.requires.shape
+first_read_refusal-refusal-requires-clause-shape g c = force-valid c.args.members.now.newest c.requires.stands.placed.fit c.args.shape.now c.requires.shape
 
 pub first_read_refusal-refusal-requires-clause-multiple : goal.first_read_refusal-refusal-requires-clause-multiple
 first_read_refusal-refusal-requires-clause-multiple g c =
-    subst (λ (x : Members). IsTrue (is_multiple x.newest.size c.args.shape.now.chunk)) (sym c.read_parts-read.ensures.lost.members) (force-multiple c.args.members.now.newest c.requires.placed.fit c.args.shape.now c.requires.shape)
+    subst (λ (x : Members). IsTrue (is_multiple x.newest.size c.args.shape.now.chunk)) (sym c.read_parts-read.ensures.lost.members) (force-multiple c.args.members.now.newest c.requires.stands.placed.fit c.args.shape.now c.requires.shape)
 
 pub first_read_refusal-refusal-requires-clause-roles : goal.first_read_refusal-refusal-requires-clause-roles
 first_read_refusal-refusal-requires-clause-roles g c =
-    roles-left (g.B.Bank.given c.args.bank.now) c.args.members.now c.read_parts-read.new.members c.read_parts-read.result.lost c.read_parts-read.ensures.lost.members c.requires.placed c.args.shape.now c.requires.shape
+    roles-left (g.B.Bank.given c.args.bank.now) c.args.members.now c.read_parts-read.new.members c.read_parts-read.result.lost c.read_parts-read.ensures.lost.members c.requires.stands.placed c.args.shape.now c.requires.shape
 
 pub first_read_refusal-refusal-requires-clause-within : goal.first_read_refusal-refusal-requires-clause-within
 first_read_refusal-refusal-requires-clause-within g c =
@@ -252,23 +186,8 @@ returns-then-is_err-clause-clean g c = ap (λ (x : Members). is_clean x.newest) 
 pub returns-then-is_err-clause-tape : goal.returns-then-is_err-clause-tape
 returns-then-is_err-clause-tape g c whole = c.read_parts-read.ensures.tape
 
-pub returns-then-is_err-clause-given : goal.returns-then-is_err-clause-given
-returns-then-is_err-clause-given g c = c.read_parts-read.ensures.given
-
-pub returns-then-is_err-clause-counts : goal.returns-then-is_err-clause-counts
-returns-then-is_err-clause-counts g c = c.read_parts-read.ensures.lost.never_falls
-
-pub record_missing-spares-requires-clause-slots : goal.record_missing-spares-requires-clause-slots
-record_missing-spares-requires-clause-slots g c = subst (λ (b : Given). b.slots ≤ 32) (sym c.read_parts-read.ensures.given) c.requires.slots
-
 pub returns-clause-clean : goal.returns-clause-clean
 returns-clause-clean g c = c.record_missing-spares.ensures.clean ∙ ap (λ (x : Members). is_clean x.newest) c.read_parts-read.ensures.lost.members
 
 pub returns-clause-tape : goal.returns-clause-tape
-returns-clause-tape g c whole told = c.record_missing-spares.ensures.tape (c.record_missing-spares.ensures.moved.whole whole) told ∙ c.read_parts-read.ensures.tape told
-
-pub returns-clause-given : goal.returns-clause-given
-returns-clause-given g c = c.record_missing-spares.ensures.given ∙ c.read_parts-read.ensures.given
-
-pub returns-clause-counts : goal.returns-clause-counts
-returns-clause-counts g c k = le_trans (c.read_parts-read.ensures.lost.never_falls k) (c.record_missing-spares.ensures.counts k)
+returns-clause-tape g c whole told = c.record_missing-spares.ensures.tape (c.record_missing-spares.ensures.keeps.moved.whole whole) told ∙ c.read_parts-read.ensures.tape told

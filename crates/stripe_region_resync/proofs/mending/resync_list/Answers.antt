@@ -67,12 +67,12 @@ stripe_after-next-requires-clause-mended g c = let pending = c.requires.pending 
 pub resync_rows-done-requires-clause-shape : goal.resync_rows-done-requires-clause-shape
 resync_rows-done-requires-clause-shape g c =
     let m = c.args.members.now in
-    subst (λ (s : Stripe). IsInForce m.newest s.shape) (sym c.stripe_after-next.ensures) (is-next m.newest c.requires.placed.fit c.args.mended c.requires.pending).force
+    subst (λ (s : Stripe). IsInForce m.newest s.shape) (sym c.stripe_after-next.ensures) (is-next m.newest c.requires.stands.placed.fit c.args.mended c.requires.pending).force
 
 pub resync_rows-done-requires-clause-stripe : goal.resync_rows-done-requires-clause-stripe
 resync_rows-done-requires-clause-stripe g c =
     let m = c.args.members.now in
-    subst (λ (s : Stripe). s.at < m.newest.size / s.shape.chunk) (sym c.stripe_after-next.ensures) (is-next m.newest c.requires.placed.fit c.args.mended c.requires.pending).below
+    subst (λ (s : Stripe). s.at < m.newest.size / s.shape.chunk) (sym c.stripe_after-next.ensures) (is-next m.newest c.requires.stands.placed.fit c.args.mended c.requires.pending).below
 
 pub returns-clause-refused : goal.returns-clause-refused
 returns-clause-refused g c =
@@ -80,10 +80,10 @@ returns-clause-refused g c =
     let new = c.mend-done.new.members in
     let did = c.mend-done.ensures in
     let next = c.stripe_after-next.result in
-    let force : IsInForce m.newest next.shape = subst (λ (s : Stripe). IsInForce m.newest s.shape) (sym c.stripe_after-next.ensures) (is-next m.newest c.requires.placed.fit c.args.mended c.requires.pending).force in
+    let force : IsInForce m.newest next.shape = subst (λ (s : Stripe). IsInForce m.newest s.shape) (sym c.stripe_after-next.ensures) (is-next m.newest c.requires.stands.placed.fit c.args.mended c.requires.pending).force in
     subst (λ (o : Option Refusal). MatchOption o (DoWithout new) (IsNotSynced (stripe_after m.newest c.args.mended).shape new)) (sym c.lacking_or-refusal.ensures)
     (subst (λ (s : Stripe). MatchOption (lacking_or new c.mend-done.result.refusal) (DoWithout new) (IsNotSynced s.shape new)) c.stripe_after-next.ensures
-    (told-why new next.shape (alike-force m.newest new.newest did.moved.reshape did.moved.shape did.moved.size next.shape force) c.mend-done.result.refusal did.refused))
+    (told-why new next.shape (alike-force m.newest new.newest did.keeps.moved.reshape did.keeps.moved.shape did.keeps.moved.size next.shape force) c.mend-done.result.refusal did.refused))
 
 pub returns-clause-first : goal.returns-clause-first
 returns-clause-first g c =
@@ -109,7 +109,7 @@ returns-clause-stands g c = λ told among does hidden list stands.
     let before = present given (g.B.Bank.tape c.args.bank.now) in
     let after = present given (g.B.Bank.tape c.mend-done.new.bank) in
     let next = stripe_after m.newest c.args.mended in
-    list-stays given m new did.moved c.requires.placed c.args.mended c.requires.pending before after
+    list-stays given m new did.keeps.moved c.requires.stands.placed c.args.mended c.requires.pending before after
     (others-of c.stripe_after-next.result next c.stripe_after-next.ensures new before after (did.others told))
     (keeps-of c.stripe_after-next.result next c.stripe_after-next.ensures m new before after (λ few. did.stands few told))
     (λ s. among s ≡ true) does hidden list stands
@@ -123,7 +123,7 @@ returns-clause-tail g c = λ does told list stands.
     let before = present given (g.B.Bank.tape c.args.bank.now) in
     let after = present given (g.B.Bank.tape c.mend-done.new.bank) in
     let next = stripe_after m.newest c.args.mended in
-    tails-stay given m new did.moved c.requires.placed c.args.mended c.requires.pending before after
+    tails-stay given m new did.keeps.moved c.requires.stands.placed c.args.mended c.requires.pending before after
     (others-of c.stripe_after-next.result next c.stripe_after-next.ensures new before after (did.others told))
     (keeps-of c.stripe_after-next.result next c.stripe_after-next.ensures m new before after (λ few. did.stands few told))
     does list stands
@@ -137,7 +137,7 @@ returns-clause-ends g c = λ does told list stands.
     let before = present given (g.B.Bank.tape c.args.bank.now) in
     let after = present given (g.B.Bank.tape c.mend-done.new.bank) in
     let next = stripe_after m.newest c.args.mended in
-    ends-stay given m new did.moved c.requires.placed c.args.mended c.requires.pending before after
+    ends-stay given m new did.keeps.moved c.requires.stands.placed c.args.mended c.requires.pending before after
     (others-of c.stripe_after-next.result next c.stripe_after-next.ensures new before after (did.others told))
     (keeps-of c.stripe_after-next.result next c.stripe_after-next.ensures m new before after (λ few. did.stands few told))
     does list stands
@@ -151,7 +151,7 @@ returns-clause-kept g c = λ told among hidden list rows.
     let before = present given (g.B.Bank.tape c.args.bank.now) in
     let after = present given (g.B.Bank.tape c.mend-done.new.bank) in
     let next = stripe_after m.newest c.args.mended in
-    rows-kept given m new did.moved c.requires.placed c.args.mended c.requires.pending before after
+    rows-kept given m new did.keeps.moved c.requires.stands.placed c.args.mended c.requires.pending before after
     (others-of c.stripe_after-next.result next c.stripe_after-next.ensures new before after (did.others told))
     (keeps-of c.stripe_after-next.result next c.stripe_after-next.ensures m new before after (λ few. did.stands few told))
     (λ s. among s ≡ true) hidden list rows
@@ -166,7 +166,7 @@ returns-clause-mended g c = λ none told among hidden list shown whole stands en
     let after = present given (g.B.Bank.tape c.mend-done.new.bank) in
     let next = stripe_after m.newest c.args.mended in
     let found : c.mend-done.result.refusal ≡ None = none-found new c.mend-done.result.refusal (sym c.lacking_or-refusal.ensures ∙ none) in
-    rows-mended given m new did.moved c.requires.placed c.args.mended c.requires.pending before after
+    rows-mended given m new did.keeps.moved c.requires.stands.placed c.args.mended c.requires.pending before after
     (others-of c.stripe_after-next.result next c.stripe_after-next.ensures new before after (did.others told))
     (keeps-of c.stripe_after-next.result next c.stripe_after-next.ensures m new before after (λ few. did.stands few told))
     (mends-of c.stripe_after-next.result next c.stripe_after-next.ensures m new before after (did.mended found told))
@@ -180,10 +180,10 @@ returns-clause-safe g c = λ told world ledger room gone unclean hidden list sho
     let given = g.B.Bank.given c.args.bank.now in
     let before = present given (g.B.Bank.tape c.args.bank.now) in
     let after = present given (g.B.Bank.tape c.mend-done.new.bank) in
-    let listed = stripe-listed given m new did.moved c.requires.placed c.args.mended c.requires.pending before after hidden list shown stands tails in
+    let listed = stripe-listed given m new did.keeps.moved c.requires.stands.placed c.args.mended c.requires.pending before after hidden list shown stands tails in
     did.safe told world ledger room gone unclean listed.0
     (subst (λ (s : Stripe). DataStandsAmong s.shape (IsOfStripe s.shape s.at) m before listed.0) (sym c.stripe_after-next.ensures) listed.1)
-    (subst (λ (s : Stripe). IsOfRegion m s.shape (IsOfStripe s.shape s.at)) (sym c.stripe_after-next.ensures) (λ x x-in at. next-region m.newest c.requires.placed.fit c.args.mended c.requires.pending x x-in at))
+    (subst (λ (s : Stripe). IsOfRegion m s.shape (IsOfStripe s.shape s.at)) (sym c.stripe_after-next.ensures) (λ x x-in at. next-region m.newest c.requires.stands.placed.fit c.args.mended c.requires.pending x x-in at))
     (λ x x-in. subst (λ (v : Sector). IsIn (ledger.values x) v) (sym (listed.2 x x-in)) (allowed x x-in))
     (λ fit x tail. listed.3 x tail ∙ zeros fit x tail)
     safe
@@ -239,5 +239,11 @@ returns-clause-stripe_safe g c = λ told world ledger room gone unclean list sta
     let before = present given (g.B.Bank.tape c.args.bank.now) in
     c.mend-done.ensures.safe told world ledger room gone unclean list
     (subst (λ (s : Stripe). DataStandsAmong s.shape (IsOfStripe s.shape s.at) m before list) (sym c.stripe_after-next.ensures) stands)
-    (subst (λ (s : Stripe). IsOfRegion m s.shape (IsOfStripe s.shape s.at)) (sym c.stripe_after-next.ensures) (λ x x-in at. next-region m.newest c.requires.placed.fit c.args.mended c.requires.pending x x-in at))
+    (subst (λ (s : Stripe). IsOfRegion m s.shape (IsOfStripe s.shape s.at)) (sym c.stripe_after-next.ensures) (λ x x-in at. next-region m.newest c.requires.stands.placed.fit c.args.mended c.requires.pending x x-in at))
     allowed zeros safe
+
+pub resync_rows-done-requires-clause-stands : goal.resync_rows-done-requires-clause-stands
+resync_rows-done-requires-clause-stands g c = c.requires.stands
+
+pub returns-clause-keeps : goal.returns-clause-keeps
+returns-clause-keeps g c = c.mend-done.ensures.keeps

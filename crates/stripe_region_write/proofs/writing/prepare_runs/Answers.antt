@@ -1,23 +1,22 @@
-use Rattle.std.proofs.Common.{◌≡◌, ◌≤◌, inl, false, List, length, refl, sym, ◌∙◌, subst, arith, le_trans}
+use Rattle.std.proofs.Common.{◌≡◌, ◌≤◌, inl, false, List, length, refl, sym, subst, arith}
 use Rattle.stripe_region_read.specs.bank_Given.{Given}
 use Rattle.stripe_region_read.specs.bank_the_Operation.{Operation}
 use Rattle.stripe_region_read.specs.sb_specs_the_Members.{Members}
 use Rattle.stripe_region_read.specs.sb_specs_Reading.{is_clean}
 use Rattle.stripe_region_read.specs.stripe_row_Rows.{present}
 use Rattle.stripe_region_read.specs.stripe_list_Buffers.{buffered}
-use Rattle.stripe_region_read.specs.array_members_Placed.{IsPlaced}
-use Rattle.stripe_region_read.specs.array_members_Moving.{Grows, IsMoved}
-use Rattle.stripe_region_read.specs.array_members_Rebuilding.{AreSparesFree}
-use Rattle.stripe_region_read.proofs.array_members_MovedLaws.{moved-then, moved-from, grows-none, grows-then}
+use Rattle.stripe_region_read.specs.array_members_Moving.{IsMoved}
+use Rattle.stripe_region_read.proofs.array_members_MovedLaws.{moved-then, moved-from}
 use Rattle.stripe_region_read.proofs.array_members_Fit.{alike-force}
-use Rattle.stripe_region_read.proofs.array_members_LackingLaws.{since-then, in-second}
+use Rattle.stripe_region_read.proofs.array_members_LackingLaws.{in-second}
 use Rattle.stripe_region_read.proofs.array_members_LackingWrites.{standing-later}
 use Rattle.stripe_region_read.proofs.array_members_SafeStretch.{safe-then, safe-lost, over-at, keeps-from}
 use Rattle.stripe_region_read.specs.history_Sound.{OpensFit}
 use Rattle.stripe_region_read.specs.crash_safety_laws_Marking.{AreOthersPresent}
-use Rattle.stripe_region_read.proofs.crash_safety_laws_Risen.{risen-then, risen-lost, room-then}
-use Rattle.stripe_region_read.proofs.stripe_io_UnusedReads.{read-unused, named-unused}
+use Rattle.stripe_region_read.proofs.crash_safety_laws_Risen.{risen-lost, room-then}
 use Rattle.stripe_region_write.proofs.RunLaws.{told-as, told-never, told-no}
+use Rattle.stripe_region_read.specs.sb_safe_updates_Frame.{Keeps}
+use Rattle.stripe_region_read.proofs.sb_safe_updates_FrameLaws.{keeps-read, keeps-then, stands-on}
 use Rattle.stripe_region_write.proofs.writing.prepare_runs.Goals as goal
 
 -- the reads make no operation
@@ -42,9 +41,12 @@ pub returns-then-not-read-clause-refused : goal.returns-then-not-read-clause-ref
 returns-then-not-read-clause-refused g c =
     told-as _ _ _ c.first_runs_refusal.result (λ refusal is. is) c.first_runs_refusal.ensures
 
-pub returns-then-not-read-clause-grows : goal.returns-then-not-read-clause-grows
-returns-then-not-read-clause-grows g c =
-    grows-none c.read_runs-read.ensures.tape
+pub returns-then-not-read-clause-keeps : goal.returns-then-not-read-clause-keeps
+returns-then-not-read-clause-keeps g c =
+    let did = c.read_runs-read.ensures in
+    let read : Keeps g.B.Bank.tells g.B.Bank.given g.B.Bank.tape g.B.Bank.faults_of c.args.bank.now c.read_runs-read.new.bank c.args.members.now c.read_runs-read.new.members 0 =
+    keeps-read did.lost.0 did.lost.1 did.tape did.given did.counts did.moved did.failed in
+    read
 
 pub returns-then-not-read-clause-low : goal.returns-then-not-read-clause-low
 returns-then-not-read-clause-low g c =
@@ -88,15 +90,6 @@ returns-then-not-read-clause-others g c =
     let tape0 = g.B.Bank.tape c.args.bank.now in
     λ told. subst (λ (l : List Operation). AreOthersPresent (present given tape0) (present given l)) (sym (did.tape told)) (λ s k other. refl)
 
-pub returns-then-not-read-clause-rise : goal.returns-then-not-read-clause-rise
-returns-then-not-read-clause-rise g c =
-    let m = c.args.members.now in
-    let n = c.read_runs-read.new.members in
-    let did = c.read_runs-read.ensures in
-    let tape0 = g.B.Bank.tape c.args.bank.now in
-    let tape1 = g.B.Bank.tape c.read_runs-read.new.bank in
-    risen-lost m n did.lost.0 tape0 tape1 did.lost.1 (λ t. still-long tape0 tape1 (did.tape t))
-
 pub returns-then-not-read-clause-safe : goal.returns-then-not-read-clause-safe
 returns-then-not-read-clause-safe g c =
     let m = c.args.members.now in
@@ -107,23 +100,12 @@ returns-then-not-read-clause-safe g c =
     let tape1 = g.B.Bank.tape c.read_runs-read.new.bank in
     λ tell world told room gone unclean now. safe-lost (OpensFit world) world.scope given told m n did.lost.0 tape0 tape1 did.lost.1 (did.tape tell) now
 
-pub returns-then-not-read-clause-unused : goal.returns-then-not-read-clause-unused
-returns-then-not-read-clause-unused g c = λ told.
-    read-unused c.args.members.now (g.B.Bank.given c.args.bank.now).start (g.B.Bank.tape c.args.bank.now) (g.B.Bank.tape c.read_runs-read.new.bank) (c.read_runs-read.ensures.tape told)
-
-pub mark_dirty-spares-requires-clause-placed : goal.mark_dirty-spares-requires-clause-placed
-mark_dirty-spares-requires-clause-placed g c =
-    let n = c.read_runs-read.new.members in
-    let given = g.B.Bank.given c.args.bank.now in
+pub mark_dirty-spares-requires : goal.mark_dirty-spares-requires
+mark_dirty-spares-requires g c =
     let did = c.read_runs-read.ensures in
-    subst (λ (b : Given). IsPlaced b n) (sym did.given) did.moved.placed
-
-pub mark_dirty-spares-requires-clause-free : goal.mark_dirty-spares-requires-clause-free
-mark_dirty-spares-requires-clause-free g c =
-    let n = c.read_runs-read.new.members in
-    let given = g.B.Bank.given c.args.bank.now in
-    let did = c.read_runs-read.ensures in
-    subst (λ (b : Given). AreSparesFree b n) (sym did.given) (did.moved.free c.requires.free)
+    let read : Keeps g.B.Bank.tells g.B.Bank.given g.B.Bank.tape g.B.Bank.faults_of c.args.bank.now c.read_runs-read.new.bank c.args.members.now c.read_runs-read.new.members 0 =
+    keeps-read did.lost.0 did.lost.1 did.tape did.given did.counts did.moved did.failed in
+    record { stands = stands-on read c.requires.stands }
 
 pub too_many_runs-requires-clause-low : goal.too_many_runs-requires-clause-low
 too_many_runs-requires-clause-low g c =
@@ -134,7 +116,7 @@ too_many_runs-requires-clause-low g c =
     let did = c.read_runs-read.ensures in
     let p = c.raise-spares.new.members in
     let named = c.raise-spares.ensures in
-    let two : IsMoved given n p = moved-from given given1 n n p did.given refl named.moved in
+    let two : IsMoved given n p = moved-from given given1 n n p did.given refl named.keeps.moved in
     let all : IsMoved given m p = moved-then given m n p did.moved two in
     alike-force m.newest p.newest all.reshape all.shape all.size c.args.low.now.shape c.requires.low.force
 
@@ -147,42 +129,20 @@ too_many_runs-requires-clause-high g c =
     let did = c.read_runs-read.ensures in
     let p = c.raise-spares.new.members in
     let named = c.raise-spares.ensures in
-    let two : IsMoved given n p = moved-from given given1 n n p did.given refl named.moved in
+    let two : IsMoved given n p = moved-from given given1 n n p did.given refl named.keeps.moved in
     let all : IsMoved given m p = moved-then given m n p did.moved two in
     alike-force m.newest p.newest all.reshape all.shape all.size c.args.high.now.shape c.requires.high.force
 
-pub returns-clause-moved : goal.returns-clause-moved
-returns-clause-moved g c =
-    let m = c.args.members.now in
-    let n = c.read_runs-read.new.members in
-    let given = g.B.Bank.given c.args.bank.now in
-    let given1 = g.B.Bank.given c.read_runs-read.new.bank in
+pub returns-clause-keeps : goal.returns-clause-keeps
+returns-clause-keeps g c =
     let did = c.read_runs-read.ensures in
-    let p = c.raise-spares.new.members in
-    let named = c.raise-spares.ensures in
-    let two : IsMoved given n p = moved-from given given1 n n p did.given refl named.moved in
-    moved-then given m n p did.moved two
-
-pub returns-clause-failed : goal.returns-clause-failed
-returns-clause-failed g c =
-    let m = c.args.members.now in
-    let n = c.read_runs-read.new.members in
-    let did = c.read_runs-read.ensures in
-    let p = c.raise-spares.new.members in
-    let named = c.raise-spares.ensures in
-    let f0 = g.B.Bank.faults_of c.args.bank.now in
-    let f1 = g.B.Bank.faults_of c.read_runs-read.new.bank in
-    let f2 = g.B.Bank.faults_of c.raise-spares.new.bank in
-    since-then m n p 0 c.raise-spares.result c.raise-spares.result f0 f1 f2 did.counts named.counts did.failed named.failed (in-second c.raise-spares.result)
+    let read : Keeps g.B.Bank.tells g.B.Bank.given g.B.Bank.tape g.B.Bank.faults_of c.args.bank.now c.read_runs-read.new.bank c.args.members.now c.read_runs-read.new.members 0 =
+    keeps-read did.lost.0 did.lost.1 did.tape did.given did.counts did.moved did.failed in
+    keeps-then read c.raise-spares.ensures.keeps (in-second c.raise-spares.result)
 
 pub returns-clause-refused : goal.returns-clause-refused
 returns-clause-refused g c =
     told-as _ _ _ c.too_many_runs.result (λ refusal many. inl many) c.too_many_runs.ensures
-
-pub returns-clause-grows : goal.returns-clause-grows
-returns-clause-grows g c =
-    let early : Grows g.B.Bank.tells (g.B.Bank.tape c.args.bank.now) (g.B.Bank.tape c.read_runs-read.new.bank) = grows-none c.read_runs-read.ensures.tape in
-    grows-then early c.raise-spares.ensures.grows
 
 pub returns-clause-others : goal.returns-clause-others
 returns-clause-others g c =
@@ -194,12 +154,6 @@ returns-clause-others g c =
     λ told. subst (λ (l : List Operation). AreOthersPresent (present given l) (present given tape2)) (did.tape told)
     (subst (λ (b : Given). AreOthersPresent (present b tape1) (present b tape2)) did.given (named.others told))
 
-pub returns-clause-unused : goal.returns-clause-unused
-returns-clause-unused g c = λ told.
-    let did = c.read_runs-read.ensures in
-    named-unused (g.B.Bank.given c.args.bank.now) (g.B.Bank.given c.read_runs-read.new.bank) c.args.members.now c.read_runs-read.new.members
-    (g.B.Bank.tape c.args.bank.now) (g.B.Bank.tape c.read_runs-read.new.bank) (g.B.Bank.tape c.raise-spares.new.bank) (did.tape told) did.given did.moved (c.raise-spares.ensures.rest told)
-
 pub returns-clause-low : goal.returns-clause-low
 returns-clause-low g c =
     let n = c.read_runs-read.new.members in
@@ -209,7 +163,7 @@ returns-clause-low g c =
     let tape0 = g.B.Bank.tape c.args.bank.now in
     let p = c.raise-spares.new.members in
     let named = c.raise-spares.ensures in
-    let two : IsMoved given n p = moved-from given given1 n n p did.given refl named.moved in
+    let two : IsMoved given n p = moved-from given given1 n n p did.given refl named.keeps.moved in
     λ none told.
     let c0 = present given tape0 in
     let read = did.low c.if-not-read.false told in
@@ -227,7 +181,7 @@ returns-clause-high g c =
     let tape0 = g.B.Bank.tape c.args.bank.now in
     let p = c.raise-spares.new.members in
     let named = c.raise-spares.ensures in
-    let two : IsMoved given n p = moved-from given given1 n n p did.given refl named.moved in
+    let two : IsMoved given n p = moved-from given given1 n n p did.given refl named.keeps.moved in
     λ none told.
     let c0 = present given tape0 in
     let read = did.high c.if-not-read.false told in
@@ -245,16 +199,6 @@ pub returns-clause-high_rows : goal.returns-clause-high_rows
 returns-clause-high_rows g c =
     let did = c.read_runs-read.ensures in
     λ none. did.high_rows c.if-not-read.false
-
-pub returns-clause-rise : goal.returns-clause-rise
-returns-clause-rise g c =
-    let m = c.args.members.now in
-    let n = c.read_runs-read.new.members in
-    let did = c.read_runs-read.ensures in
-    let tape0 = g.B.Bank.tape c.args.bank.now in
-    let tape1 = g.B.Bank.tape c.read_runs-read.new.bank in
-    let named = c.raise-spares.ensures in
-    risen-then (risen-lost m n did.lost.0 tape0 tape1 did.lost.1 (λ t. still-long tape0 tape1 (did.tape t))) named.rise
 
 pub returns-clause-safe : goal.returns-clause-safe
 returns-clause-safe g c =
@@ -274,18 +218,14 @@ returns-clause-safe g c =
     (keeps-from world given given1 told p tape1 tape2 did.given
     (named.safe tell world told (room-then tape2 tell room (risen-lost m n did.lost.0 tape0 tape1 did.lost.1 (λ t. still-long tape0 tape1 (did.tape t)))) gone unclean (over-at world given given1 told n tape1 did.given read.next)))
 
-pub returns-clause-counts : goal.returns-clause-counts
-returns-clause-counts g c =
-    λ s. le_trans (c.read_runs-read.ensures.counts s) (c.raise-spares.ensures.counts s)
-
 pub returns-clause-does : goal.returns-clause-does
 returns-clause-does g c = λ none. told-no _ _ c.too_many_runs.result none c.too_many_runs.ensures
 
 pub read_runs-read-requires-clause-placed : goal.read_runs-read-requires-clause-placed
-read_runs-read-requires-clause-placed g c = c.requires.placed
+read_runs-read-requires-clause-placed g c = c.requires.stands.placed
 
 pub read_runs-read-requires-clause-unlost : goal.read_runs-read-requires-clause-unlost
-read_runs-read-requires-clause-unlost g c = c.requires.unlost
+read_runs-read-requires-clause-unlost g c = c.requires.stands.unlost
 
 pub read_runs-read-requires-clause-low : goal.read_runs-read-requires-clause-low
 read_runs-read-requires-clause-low g c = c.requires.low
@@ -311,18 +251,6 @@ read_runs-read-requires-clause-buffer g c = c.requires.buffer
 pub read_runs-read-requires-clause-far_buffer : goal.read_runs-read-requires-clause-far_buffer
 read_runs-read-requires-clause-far_buffer g c = c.requires.far_buffer
 
-pub returns-then-not-read-clause-moved : goal.returns-then-not-read-clause-moved
-returns-then-not-read-clause-moved g c = c.read_runs-read.ensures.moved
-
-pub returns-then-not-read-clause-failed : goal.returns-then-not-read-clause-failed
-returns-then-not-read-clause-failed g c = c.read_runs-read.ensures.failed
-
-pub returns-then-not-read-clause-given : goal.returns-then-not-read-clause-given
-returns-then-not-read-clause-given g c = c.read_runs-read.ensures.given
-
-pub returns-then-not-read-clause-counts : goal.returns-then-not-read-clause-counts
-returns-then-not-read-clause-counts g c = c.read_runs-read.ensures.counts
-
 pub returns-then-not-read-clause-rows : goal.returns-then-not-read-clause-rows
 returns-then-not-read-clause-rows g c = c.read_runs-read.ensures.rows
 
@@ -335,20 +263,11 @@ returns-then-not-read-clause-buffer g c = c.read_runs-read.ensures.buffer
 pub returns-then-not-read-clause-far_buffer : goal.returns-then-not-read-clause-far_buffer
 returns-then-not-read-clause-far_buffer g c = c.read_runs-read.ensures.far_buffer
 
-pub mark_dirty-spares-requires-clause-slots : goal.mark_dirty-spares-requires-clause-slots
-mark_dirty-spares-requires-clause-slots g c = subst (λ (b : Given). b.slots ≤ 32) (sym c.read_runs-read.ensures.given) c.requires.slots
-
-pub mark_dirty-spares-requires-clause-unlost : goal.mark_dirty-spares-requires-clause-unlost
-mark_dirty-spares-requires-clause-unlost g c = c.read_runs-read.ensures.moved.unlost
-
 pub returns-clause-dirty : goal.returns-clause-dirty
 returns-clause-dirty g c none = c.raise-spares.ensures.dirty
 
 pub returns-clause-stays : goal.returns-clause-stays
 returns-clause-stays g c dirty = c.raise-spares.ensures.dirty
-
-pub returns-clause-given : goal.returns-clause-given
-returns-clause-given g c = c.raise-spares.ensures.given ∙ c.read_runs-read.ensures.given
 
 pub returns-clause-rows : goal.returns-clause-rows
 returns-clause-rows g c = c.read_runs-read.ensures.rows

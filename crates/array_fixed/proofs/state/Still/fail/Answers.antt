@@ -74,23 +74,20 @@ newly_unassigned-roles-requires-clause-few g c =
     let l = c.len-count.ensures in
     omega (arith, few, n, l)
 
-pub record_missing-spares-requires-clause-placed : goal.record_missing-spares-requires-clause-placed
-record_missing-spares-requires-clause-placed g c =
+pub record_missing-spares-requires : goal.record_missing-spares-requires
+record_missing-spares-requires g c =
     let was = c.self.invariant.kept.members_are in
-    placed-out (g.B.Bank.given c.self.inside.bank) c.self.inside.members c.lose_slot.new.members c.lose_slot.result c.in-Some.slot c.args.role was.placed was.unlost
-    c.lose_slot.ensures.members c.lose_slot.ensures.alone c.in-Some.ensures.held
-
-pub record_missing-spares-requires-clause-unlost : goal.record_missing-spares-requires-clause-unlost
-record_missing-spares-requires-clause-unlost g c =
-    let was = c.self.invariant.kept.members_are in
-    unlost-out (g.B.Bank.given c.self.inside.bank) c.self.inside.members c.lose_slot.new.members c.lose_slot.result c.in-Some.slot c.args.role was.placed was.unlost
-    c.lose_slot.ensures.members c.lose_slot.ensures.alone c.in-Some.ensures.held
-
-pub record_missing-spares-requires-clause-free : goal.record_missing-spares-requires-clause-free
-record_missing-spares-requires-clause-free g c =
-    let was = c.self.invariant.kept.members_are in
-    (moved-out (g.B.Bank.given c.self.inside.bank) c.self.inside.members c.lose_slot.new.members c.lose_slot.result c.in-Some.slot c.args.role was.placed was.unlost
-    c.lose_slot.ensures.members c.lose_slot.ensures.alone c.in-Some.ensures.held).free was.free
+    record {
+      stands = record {
+        slots = c.self.invariant.kept.slots;
+        placed = placed-out (g.B.Bank.given c.self.inside.bank) c.self.inside.members c.lose_slot.new.members c.lose_slot.result c.in-Some.slot c.args.role was.placed was.unlost
+            c.lose_slot.ensures.members c.lose_slot.ensures.alone c.in-Some.ensures.held;
+        unlost = unlost-out (g.B.Bank.given c.self.inside.bank) c.self.inside.members c.lose_slot.new.members c.lose_slot.result c.in-Some.slot c.args.role was.placed was.unlost
+            c.lose_slot.ensures.members c.lose_slot.ensures.alone c.in-Some.ensures.held;
+        free = (moved-out (g.B.Bank.given c.self.inside.bank) c.self.inside.members c.lose_slot.new.members c.lose_slot.result c.in-Some.slot c.args.role was.placed was.unlost
+            c.lose_slot.ensures.members c.lose_slot.ensures.alone c.in-Some.ensures.held).free was.free;
+      };
+    }
 
 -- ---- no slot holds the role
 
@@ -148,16 +145,16 @@ invariant_of-self-2 g c =
     let scope = scope_in given a.epoch.uuid a.epoch.given a.backup in
     let lost = c.lose_slot.result in
     let is = c.lose_slot.ensures.members in
-    let moved = moved-all given a.members mid m lost c.in-Some.slot role here.placed here.unlost is c.lose_slot.ensures.alone c.in-Some.ensures.held did.moved in
+    let moved = moved-all given a.members mid m lost c.in-Some.slot role here.placed here.unlost is c.lose_slot.ensures.alone c.in-Some.ensures.held did.keeps.moved in
     let out : IsTakenOut g.B.Bank.tells given tape tape' a.members m role roles =
     record {
       moved = moved;
-      since = missing-out given a.members mid m lost c.in-Some.slot role here.placed here.unlost is c.lose_slot.ensures.alone c.in-Some.ensures.held did.moved
-          c.len-count.result c.unassigned_roles-before.result roles spares (g.B.Bank.faults_of a.bank) (g.B.Bank.faults_of c.record_missing-spares.new.bank) did.failed (c.len-count.ensures ∙ here.placed.roles)
+      since = missing-out given a.members mid m lost c.in-Some.slot role here.placed here.unlost is c.lose_slot.ensures.alone c.in-Some.ensures.held did.keeps.moved
+          c.len-count.result c.unassigned_roles-before.result roles spares (g.B.Bank.faults_of a.bank) (g.B.Bank.faults_of c.record_missing-spares.new.bank) did.keeps.failed (c.len-count.ensures ∙ here.placed.roles)
           c.unassigned_roles-before.ensures c.newly_unassigned-roles.ensures;
-      grows = did.grows;
+      grows = did.keeps.bank.grows;
       clean = did.clean ∙ clean-out a.members mid lost is;
-      rise = risen-told (rise-out a.members mid lost is m tape tape' did.rise);
+      rise = risen-told (rise-out a.members mid lost is m tape tape' did.keeps.rise);
       others = did.others;
       safe = named-out a.members mid lost is given m tape tape' did.safe;
     } in
@@ -166,15 +163,15 @@ invariant_of-self-2 g c =
     ready (entries_of c.args.who end ((Lost role Command ∷ losses_of roles spares) ++ Failed role ∷ [])) was (rows-moved given a.members m moved)
     (failed-stands g.B.Bank.tells given tape tape' scope a.epoch.first a.epoch.entries.items a.members m a.work (still_left a.work a.members a.ahead) (still_left a.work m a.ahead) c.args.who end role roles spares
     was.kept (holder-left given a.members role c.in-Some.slot here.placed here.unlost c.in-Some.ensures.held) (begins-going a.epoch.entries.items c.args.who number) (not_254 c.args.who.caller c.requires.caller) c.ops-end-2.ensures.count out)
-    (failed-plain was c.args.who end (begins-going a.epoch.entries.items c.args.who number) c.requires.caller c.ops-end-2.ensures.count did.grows moved role
+    (failed-plain was c.args.who end (begins-going a.epoch.entries.items c.args.who number) c.requires.caller c.ops-end-2.ensures.count did.keeps.bank.grows moved role
     (out-only given a.members mid lost c.in-Some.slot role here.placed here.unlost is c.lose_slot.ensures.alone c.in-Some.ensures.held)
-    (since-out given a.members mid m lost c.in-Some.slot role here.placed here.unlost is c.lose_slot.ensures.alone c.in-Some.ensures.held did.moved
-    c.len-count.result c.unassigned_roles-before.result roles spares (g.B.Bank.faults_of a.bank) (g.B.Bank.faults_of c.record_missing-spares.new.bank) did.failed (c.len-count.ensures ∙ here.placed.roles)
+    (since-out given a.members mid m lost c.in-Some.slot role here.placed here.unlost is c.lose_slot.ensures.alone c.in-Some.ensures.held did.keeps.moved
+    c.len-count.result c.unassigned_roles-before.result roles spares (g.B.Bank.faults_of a.bank) (g.B.Bank.faults_of c.record_missing-spares.new.bank) did.keeps.failed (c.len-count.ensures ∙ here.placed.roles)
     c.unassigned_roles-before.ensures c.newly_unassigned-roles.ensures)
-    (vacant-moved did.moved role (out-vacant given a.members mid lost c.in-Some.slot role here.placed here.unlost is c.lose_slot.ensures.alone c.in-Some.ensures.held))
+    (vacant-moved did.keeps.moved role (out-vacant given a.members mid lost c.in-Some.slot role here.placed here.unlost is c.lose_slot.ensures.alone c.in-Some.ensures.held))
     (out-spares given a.members mid lost c.in-Some.slot role here.placed here.unlost is c.lose_slot.ensures.alone c.in-Some.ensures.held))
-    did.counts (record { long = λ n. quiet.long n; free = quiet.free })
-    did.given (scope-same given a.backup did.given (c.append_after_losses.ensures.uuid ∙ c.enter-2.ensures.uuid) (c.append_after_losses.ensures.given ∙ c.enter-2.ensures.given)) (c.append_after_losses.ensures.first ∙ c.enter-2.ensures.first)
+    did.keeps.bank.counts (record { long = λ n. quiet.long n; free = quiet.free })
+    did.keeps.bank.same (scope-same given a.backup did.keeps.bank.same (c.append_after_losses.ensures.uuid ∙ c.enter-2.ensures.uuid) (c.append_after_losses.ensures.given ∙ c.enter-2.ensures.given)) (c.append_after_losses.ensures.first ∙ c.enter-2.ensures.first)
     c.make_room.ensures.items items (omega (arith, c.append_after_losses.ensures.room, c.enter-2.ensures.room, c.in-Ok.ensures.ok))
 
 pub returns-clause-answered : goal.returns-clause-answered
@@ -203,15 +200,15 @@ returns-clause-called g c =
     let roles = c.newly_unassigned-roles.result in
     let spares = c.record_missing-spares.result in
     let end = c.ops-end-2.result in
-    let moved = moved-all given a.members mid m c.lose_slot.result c.in-Some.slot role here.placed here.unlost c.lose_slot.ensures.members c.lose_slot.ensures.alone c.in-Some.ensures.held did.moved in
-    let since = since-out given a.members mid m c.lose_slot.result c.in-Some.slot role here.placed here.unlost c.lose_slot.ensures.members c.lose_slot.ensures.alone c.in-Some.ensures.held did.moved
-    c.len-count.result c.unassigned_roles-before.result roles spares before after did.failed (c.len-count.ensures ∙ here.placed.roles) c.unassigned_roles-before.ensures c.newly_unassigned-roles.ensures in
+    let moved = moved-all given a.members mid m c.lose_slot.result c.in-Some.slot role here.placed here.unlost c.lose_slot.ensures.members c.lose_slot.ensures.alone c.in-Some.ensures.held did.keeps.moved in
+    let since = since-out given a.members mid m c.lose_slot.result c.in-Some.slot role here.placed here.unlost c.lose_slot.ensures.members c.lose_slot.ensures.alone c.in-Some.ensures.held did.keeps.moved
+    c.len-count.result c.unassigned_roles-before.result roles spares before after did.keeps.failed (c.len-count.ensures ∙ here.placed.roles) c.unassigned_roles-before.ensures c.newly_unassigned-roles.ensures in
     let first = moved-out given a.members mid c.lose_slot.result c.in-Some.slot role here.placed here.unlost c.lose_slot.ensures.members c.lose_slot.ensures.alone c.in-Some.ensures.held in
     let items = behind-loss c.make_room.new.self.items c.enter-2.new.epoch.entries.items c.append_after_losses.new.epoch.entries.items c.args.who end (Lost role Command) (losses_of roles spares ++ Failed role ∷ []) c.enter-2.ensures.items c.append_after_losses.ensures.items in
-    rw (← c.self.view_is) (called did.grows moved
+    rw (← c.self.view_is) (called did.keeps.bank.grows moved
     (ended-behind (g.B.Bank.tape c.record_missing-spares.new.bank) c.append_after_losses.new.epoch.first c.make_room.new.self.items c.args.who end (Lost role Command ∷ losses_of roles spares) (Failed role) items c.ops-end-2.ensures.count)
     (losses-failed a.members mid m before after a.epoch.entries.items c.make_room.new.self.items c.append_after_losses.new.epoch.entries.items c.args.who end role c.in-Some.slot roles spares first.held first.fewer since c.in-Some.ensures.held c.make_room.ensures.items items)
-    did.counts
+    did.keeps.bank.counts
     (record { uuid = c.append_after_losses.ensures.uuid ∙ c.enter-2.ensures.uuid; given = c.append_after_losses.ensures.given ∙ c.enter-2.ensures.given; first = c.append_after_losses.ensures.first ∙ c.enter-2.ensures.first; backup = refl; work = refl; ahead = refl; limit = refl })
     (λ t. (was.kept.recorded t).begun))
 
@@ -223,7 +220,7 @@ returns-clause-caused g c =
     let here = c.self.invariant.kept.members_are in
     let a = c.self.inside in
     let gone = out-vacant (g.B.Bank.given a.bank) a.members c.lose_slot.new.members c.lose_slot.result c.in-Some.slot c.args.role here.placed here.unlost c.lose_slot.ensures.members c.lose_slot.ensures.alone c.in-Some.ensures.held in
-    rw (← c.self.view_is) (c.in-Some.ensures.some, vacant-moved c.record_missing-spares.ensures.moved c.args.role gone)
+    rw (← c.self.view_is) (c.in-Some.ensures.some, vacant-moved c.record_missing-spares.ensures.keeps.moved c.args.role gone)
 
 -- ---- what else the calls ask
 
@@ -239,7 +236,7 @@ unassigned_roles-before-requires-clause-known g c =
 pub newly_unassigned-roles-requires-clause-known : goal.newly_unassigned-roles-requires-clause-known
 newly_unassigned-roles-requires-clause-known g c =
     let here = c.self.invariant.kept.members_are in
-    let moved = moved-all (g.B.Bank.given c.self.inside.bank) c.self.inside.members c.lose_slot.new.members c.record_missing-spares.new.members c.lose_slot.result c.in-Some.slot c.args.role here.placed here.unlost c.lose_slot.ensures.members c.lose_slot.ensures.alone c.in-Some.ensures.held c.record_missing-spares.ensures.moved in
+    let moved = moved-all (g.B.Bank.given c.self.inside.bank) c.self.inside.members c.lose_slot.new.members c.record_missing-spares.new.members c.lose_slot.result c.in-Some.slot c.args.role here.placed here.unlost c.lose_slot.ensures.members c.lose_slot.ensures.alone c.in-Some.ensures.held c.record_missing-spares.ensures.keeps.moved in
     same-known c.len-count.ensures here.placed.roles (moved.placed.roles ∙ count-alike c.self.inside.members.newest c.record_missing-spares.new.members.newest moved.reshape moved.shape moved.size)
 
 pub append_after_losses-requires-clause-number : goal.append_after_losses-requires-clause-number
@@ -273,4 +270,4 @@ pub returns-clause-clean : goal.returns-clause-clean
 returns-clause-clean g c = c.record_missing-spares.ensures.clean ∙ clean-out c.self.inside.members c.lose_slot.new.members c.lose_slot.result c.lose_slot.ensures.members ∙ ap (λ p. is_clean p.parts.members.newest) c.self.view_is
 
 pub returns-clause-given : goal.returns-clause-given
-returns-clause-given g c = c.record_missing-spares.ensures.given ∙ ap (λ p. g.B.Bank.given p.parts.bank) c.self.view_is
+returns-clause-given g c = c.record_missing-spares.ensures.keeps.bank.same ∙ ap (λ p. g.B.Bank.given p.parts.bank) c.self.view_is

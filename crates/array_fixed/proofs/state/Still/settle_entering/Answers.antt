@@ -118,19 +118,19 @@ invariant_of-self-in-Some-refusal g c =
     let refusal = c.in-Some-refusal.refusal in
     let left = still_left a.work a.members a.ahead in
     let left' = still_left a.work m a.ahead in
-    let since = lost-since given a.members m c.len-count.result c.unassigned_roles-before.result roles spares before after here.placed did.moved did.failed
+    let since = lost-since given a.members m c.len-count.result c.unassigned_roles-before.result roles spares before after here.placed did.keeps.moved did.keeps.failed
     (c.len-count.ensures ∙ here.placed.roles) c.unassigned_roles-before.ensures c.newly_unassigned-roles.ensures in
     let flushed : IsFlushedStill g.B.Bank.tells given tape tape' a.members m roles spares before after c.is_some.result =
-    record { moved = did.moved; since = since; grows = did.grows; rise = risen-told did.rise; others = did.others; safe = did.safe } in
-    ready (entries_of c.args.who end (losses_of roles spares ++ Refused refusal ∷ [])) was (rows-moved given a.members m did.moved)
+    record { moved = did.keeps.moved; since = since; grows = did.keeps.bank.grows; rise = risen-told did.keeps.rise; others = did.others; safe = did.safe } in
+    ready (entries_of c.args.who end (losses_of roles spares ++ Refused refusal ∷ [])) was (rows-moved given a.members m did.keeps.moved)
     (unflushed-stands g.B.Bank.tells given tape tape' scope a.epoch.first a.epoch.entries.items a.members m a.work left c.args.who end roles spares before after c.is_some.result was.kept
     (without-left given a.members here.placed here.unlost c.in_default.ensures) (begins-going a.epoch.entries.items c.args.who number) (not_254 c.args.who.caller c.requires.caller) c.ops-end-2.ensures.count
     (all-mended a.members a.work.resync c.is_some.result c.is_some.ensures) flushed left' refusal (many-of m c.settle-settled.result.refusal refusal c.in-Some-refusal.is did.refused)
-    (left-alike a.work a.ahead roles spares before after did.moved since))
-    (plain-refused was c.args.who end (begins-going a.epoch.entries.items c.args.who number) c.requires.caller c.ops-end-2.ensures.count did.grows did.moved since refusal
+    (left-alike a.work a.ahead roles spares before after did.keeps.moved since))
+    (plain-refused was c.args.who end (begins-going a.epoch.entries.items c.args.who number) c.requires.caller c.ops-end-2.ensures.count did.keeps.bank.grows did.keeps.moved since refusal
     (too-many-here (visible_size a.members a.limit) a.work.resync m refusal (many-of m c.settle-settled.result.refusal refusal c.in-Some-refusal.is did.refused)))
-    did.counts (behind-keeps c.args.who end roles spares (Refused refusal ∷ []) (alone-keeps c.args.who end (Refused refusal) (λ n. refl) (λ limit. refl)))
-    did.given (scope-same given a.backup did.given c.append_after_losses.ensures.uuid c.append_after_losses.ensures.given) c.append_after_losses.ensures.first c.make_room.ensures.items c.append_after_losses.ensures.items
+    did.keeps.bank.counts (behind-keeps c.args.who end roles spares (Refused refusal ∷ []) (alone-keeps c.args.who end (Refused refusal) (λ n. refl) (λ limit. refl)))
+    did.keeps.bank.same (scope-same given a.backup did.keeps.bank.same c.append_after_losses.ensures.uuid c.append_after_losses.ensures.given) c.append_after_losses.ensures.first c.make_room.ensures.items c.append_after_losses.ensures.items
     (omega (arith, c.append_after_losses.ensures.room, c.in-Ok.ensures.ok))
 
 pub returns-in-Some-refusal-clause-called : goal.returns-in-Some-refusal-clause-called
@@ -147,12 +147,12 @@ returns-in-Some-refusal-clause-called g c =
     let spares = c.settle-settled.result.spares in
     let end = c.ops-end-2.result in
     let event = Refused c.in-Some-refusal.refusal in
-    let since = lost-since given a.members m c.len-count.result c.unassigned_roles-before.result roles spares before after here.placed did.moved did.failed
+    let since = lost-since given a.members m c.len-count.result c.unassigned_roles-before.result roles spares before after here.placed did.keeps.moved did.keeps.failed
     (c.len-count.ensures ∙ here.placed.roles) c.unassigned_roles-before.ensures c.newly_unassigned-roles.ensures in
-    rw (← c.self.view_is) (called did.grows did.moved
+    rw (← c.self.view_is) (called did.keeps.bank.grows did.keeps.moved
     (ended-behind (g.B.Bank.tape c.settle-settled.new.bank) c.append_after_losses.new.epoch.first c.make_room.new.self.items c.args.who end (losses_of roles spares) event c.append_after_losses.ensures.items c.ops-end-2.ensures.count)
     (losses-behind a.members m before after a.epoch.entries.items c.make_room.new.self.items c.append_after_losses.new.epoch.entries.items c.args.who end roles spares event since tt c.make_room.ensures.items c.append_after_losses.ensures.items)
-    did.counts
+    did.keeps.bank.counts
     (record { uuid = c.append_after_losses.ensures.uuid; given = c.append_after_losses.ensures.given; first = c.append_after_losses.ensures.first; backup = refl; work = refl; ahead = refl; limit = refl })
     (λ t. (was.kept.recorded t).begun))
 
@@ -174,18 +174,18 @@ invariant_of-self-2 g c =
     let roles = c.newly_unassigned-roles.result in
     let spares = c.settle-settled.result.spares in
     let end = c.ops-end-2.result in
-    let since = lost-since given a.members m c.len-count.result c.unassigned_roles-before.result roles spares before after here.placed did.moved did.failed
+    let since = lost-since given a.members m c.len-count.result c.unassigned_roles-before.result roles spares before after here.placed did.keeps.moved did.keeps.failed
     (c.len-count.ensures ∙ here.placed.roles) c.unassigned_roles-before.ensures c.newly_unassigned-roles.ensures in
     let flushed : IsFlushedStill g.B.Bank.tells given tape tape' a.members m roles spares before after c.is_some.result =
-    record { moved = did.moved; since = since; grows = did.grows; rise = risen-told did.rise; others = did.others; safe = did.safe } in
-    ready (entries_of c.args.who end (losses_of roles spares ++ c.args.event ∷ [])) was (rows-moved given a.members m did.moved)
+    record { moved = did.keeps.moved; since = since; grows = did.keeps.bank.grows; rise = risen-told did.keeps.rise; others = did.others; safe = did.safe } in
+    ready (entries_of c.args.who end (losses_of roles spares ++ c.args.event ∷ [])) was (rows-moved given a.members m did.keeps.moved)
     (settled-stands (still_left a.work m a.ahead) c.args.who end c.args.event c.requires.event was.kept (without-left given a.members here.placed here.unlost c.in_default.ensures)
     (begins-going a.epoch.entries.items c.args.who number) (not_254 c.args.who.caller c.requires.caller) c.ops-end-2.ensures.count c.is_some.ensures flushed
     (record { clean = did.clean c.in_default-refusal.is; stays = did.stays; settled = did.settled c.in_default-refusal.is })
-    (left-alike a.work a.ahead roles spares before after did.moved since))
-    (plain-settled was c.args.who end (begins-going a.epoch.entries.items c.args.who number) c.requires.caller c.ops-end-2.ensures.count did.grows did.moved since c.args.event c.requires.event)
-    did.counts (behind-keeps c.args.who end roles spares (c.args.event ∷ []) (settling-keeps c.args.who end c.args.event c.requires.event))
-    did.given (scope-same given a.backup did.given c.append_after_losses-2.ensures.uuid c.append_after_losses-2.ensures.given) c.append_after_losses-2.ensures.first c.make_room.ensures.items c.append_after_losses-2.ensures.items
+    (left-alike a.work a.ahead roles spares before after did.keeps.moved since))
+    (plain-settled was c.args.who end (begins-going a.epoch.entries.items c.args.who number) c.requires.caller c.ops-end-2.ensures.count did.keeps.bank.grows did.keeps.moved since c.args.event c.requires.event)
+    did.keeps.bank.counts (behind-keeps c.args.who end roles spares (c.args.event ∷ []) (settling-keeps c.args.who end c.args.event c.requires.event))
+    did.keeps.bank.same (scope-same given a.backup did.keeps.bank.same c.append_after_losses-2.ensures.uuid c.append_after_losses-2.ensures.given) c.append_after_losses-2.ensures.first c.make_room.ensures.items c.append_after_losses-2.ensures.items
     (omega (arith, c.append_after_losses-2.ensures.room, c.in-Ok.ensures.ok))
 
 pub returns-clause-called : goal.returns-clause-called
@@ -201,13 +201,13 @@ returns-clause-called g c =
     let roles = c.newly_unassigned-roles.result in
     let spares = c.settle-settled.result.spares in
     let end = c.ops-end-2.result in
-    let since = lost-since given a.members m c.len-count.result c.unassigned_roles-before.result roles spares before after here.placed did.moved did.failed
+    let since = lost-since given a.members m c.len-count.result c.unassigned_roles-before.result roles spares before after here.placed did.keeps.moved did.keeps.failed
     (c.len-count.ensures ∙ here.placed.roles) c.unassigned_roles-before.ensures c.newly_unassigned-roles.ensures in
-    rw (← c.self.view_is) (called did.grows did.moved
+    rw (← c.self.view_is) (called did.keeps.bank.grows did.keeps.moved
     (ended-behind (g.B.Bank.tape c.settle-settled.new.bank) c.append_after_losses-2.new.epoch.first c.make_room.new.self.items c.args.who end (losses_of roles spares) c.args.event c.append_after_losses-2.ensures.items c.ops-end-2.ensures.count)
     (losses-behind a.members m before after a.epoch.entries.items c.make_room.new.self.items c.append_after_losses-2.new.epoch.entries.items c.args.who end roles spares c.args.event since
     (settling-no-loss a.members before after c.args.event c.requires.event) c.make_room.ensures.items c.append_after_losses-2.ensures.items)
-    did.counts
+    did.keeps.bank.counts
     (record { uuid = c.append_after_losses-2.ensures.uuid; given = c.append_after_losses-2.ensures.given; first = c.append_after_losses-2.ensures.first; backup = refl; work = refl; ahead = refl; limit = refl })
     (λ t. (was.kept.recorded t).begun))
 
@@ -222,10 +222,10 @@ returns-clause-left g c =
     let after = g.B.Bank.faults_of c.settle-settled.new.bank in
     let roles = c.newly_unassigned-roles.result in
     let spares = c.settle-settled.result.spares in
-    let since = lost-since given a.members m c.len-count.result c.unassigned_roles-before.result roles spares before after here.placed did.moved did.failed
+    let since = lost-since given a.members m c.len-count.result c.unassigned_roles-before.result roles spares before after here.placed did.keeps.moved did.keeps.failed
     (c.len-count.ensures ∙ here.placed.roles) c.unassigned_roles-before.ensures c.newly_unassigned-roles.ensures in
     rw (← c.self.view_is) (λ t. left-settled given a.members m a.epoch.entries.items c.make_room.new.self.items c.append_after_losses-2.new.epoch.entries.items c.args.who c.ops-end-2.result roles spares c.args.event before after
-    (g.B.Bank.tape c.settle-settled.new.bank) here.placed did.moved (few-roles m.newest did.moved.placed.fit.valid) since c.make_room.ensures.items c.append_after_losses-2.ensures.items (did.flushed t))
+    (g.B.Bank.tape c.settle-settled.new.bank) here.placed did.keeps.moved (few-roles m.newest did.keeps.moved.placed.fit.valid) since c.make_room.ensures.items c.append_after_losses-2.ensures.items (did.flushed t))
 
 pub returns-clause-caused : goal.returns-clause-caused
 returns-clause-caused g c = rw (← c.self.view_is) (omega arith, λ refusal many. never-both c.self.inside.members refusal c.in_default.ensures many)
@@ -296,11 +296,11 @@ returns-in-Some-clause-given g c = ap (λ p. g.B.Bank.given p.parts.bank) c.self
 pub unassigned_roles-before-requires-clause-known : goal.unassigned_roles-before-requires-clause-known
 unassigned_roles-before-requires-clause-known g c = le-of c.len-count.ensures
 
-pub flush_and_mark-settled-requires-clause-slots : goal.flush_and_mark-settled-requires-clause-slots
-flush_and_mark-settled-requires-clause-slots g c = c.self.invariant.kept.slots
+pub flush_and_mark-settled-requires : goal.flush_and_mark-settled-requires
+flush_and_mark-settled-requires g c = record { stands = record { slots = c.self.invariant.kept.slots; placed = c.self.invariant.kept.members_are.placed; unlost = c.self.invariant.kept.members_are.unlost; free = c.self.invariant.kept.members_are.free } }
 
 pub newly_unassigned-roles-requires-clause-known : goal.newly_unassigned-roles-requires-clause-known
-newly_unassigned-roles-requires-clause-known g c = count-moved c.len-count.result c.self.invariant.kept.members_are.placed c.settle-settled.ensures.moved c.len-count.ensures
+newly_unassigned-roles-requires-clause-known g c = count-moved c.len-count.result c.self.invariant.kept.members_are.placed c.settle-settled.ensures.keeps.moved c.len-count.ensures
 
 pub append_after_losses-requires-clause-room : goal.append_after_losses-requires-clause-room
 append_after_losses-requires-clause-room g c = room-49 c.make_room.new.self.room c.in-Ok.ensures.ok
@@ -331,7 +331,7 @@ returns-in-Some-refusal-clause-caused g c =
     (refused-for (list_length a.members.newest) 0 AreTooMany a.members m refusal (too-many-of m refusal many) (from-0 (list_length a.members.newest)) many)
 
 pub returns-in-Some-refusal-clause-given : goal.returns-in-Some-refusal-clause-given
-returns-in-Some-refusal-clause-given g c = c.settle-settled.ensures.given ∙ ap (λ p. g.B.Bank.given p.parts.bank) c.self.view_is
+returns-in-Some-refusal-clause-given g c = c.settle-settled.ensures.keeps.bank.same ∙ ap (λ p. g.B.Bank.given p.parts.bank) c.self.view_is
 
 pub append_after_losses-requires-2-clause-room : goal.append_after_losses-requires-2-clause-room
 append_after_losses-requires-2-clause-room g c = room-49 c.make_room.new.self.room c.in-Ok.ensures.ok
@@ -358,7 +358,7 @@ pub returns-clause-last : goal.returns-clause-last
 returns-clause-last g c = λ t. c.append_after_losses-2.ensures.last ∙ c.ops-end-2.ensures.count t
 
 pub returns-clause-given : goal.returns-clause-given
-returns-clause-given g c = c.settle-settled.ensures.given ∙ ap (λ p. g.B.Bank.given p.parts.bank) c.self.view_is
+returns-clause-given g c = c.settle-settled.ensures.keeps.bank.same ∙ ap (λ p. g.B.Bank.given p.parts.bank) c.self.view_is
 
 -- ---- what it leaves of the members
 
@@ -368,10 +368,10 @@ returns-in-Some-refusal-clause-others g c =
 
 pub returns-in-Some-refusal-clause-failed : goal.returns-in-Some-refusal-clause-failed
 returns-in-Some-refusal-clause-failed g c =
-    subst (λ p. HaveRolesFailed p.parts.members c.settle-settled.new.members (g.B.Bank.faults_of p.parts.bank) (g.B.Bank.faults_of c.settle-settled.new.bank)) c.self.view_is c.settle-settled.ensures.failed.roles
+    subst (λ p. HaveRolesFailed p.parts.members c.settle-settled.new.members (g.B.Bank.faults_of p.parts.bank) (g.B.Bank.faults_of c.settle-settled.new.bank)) c.self.view_is c.settle-settled.ensures.keeps.failed.roles
 
 pub returns-in-Some-refusal-clause-whole : goal.returns-in-Some-refusal-clause-whole
-returns-in-Some-refusal-clause-whole g c = subst (λ p. AreWhole c.settle-settled.new.members → AreWhole p.parts.members) c.self.view_is c.settle-settled.ensures.moved.whole
+returns-in-Some-refusal-clause-whole g c = subst (λ p. AreWhole c.settle-settled.new.members → AreWhole p.parts.members) c.self.view_is c.settle-settled.ensures.keeps.moved.whole
 
 pub returns-clause-others : goal.returns-clause-others
 returns-clause-others g c =
@@ -379,10 +379,10 @@ returns-clause-others g c =
 
 pub returns-clause-failed : goal.returns-clause-failed
 returns-clause-failed g c =
-    subst (λ p. HaveRolesFailed p.parts.members c.settle-settled.new.members (g.B.Bank.faults_of p.parts.bank) (g.B.Bank.faults_of c.settle-settled.new.bank)) c.self.view_is c.settle-settled.ensures.failed.roles
+    subst (λ p. HaveRolesFailed p.parts.members c.settle-settled.new.members (g.B.Bank.faults_of p.parts.bank) (g.B.Bank.faults_of c.settle-settled.new.bank)) c.self.view_is c.settle-settled.ensures.keeps.failed.roles
 
 pub returns-clause-whole : goal.returns-clause-whole
-returns-clause-whole g c = subst (λ p. AreWhole c.settle-settled.new.members → AreWhole p.parts.members) c.self.view_is c.settle-settled.ensures.moved.whole
+returns-clause-whole g c = subst (λ p. AreWhole c.settle-settled.new.members → AreWhole p.parts.members) c.self.view_is c.settle-settled.ensures.keeps.moved.whole
 
 pub returns-clause-flushed : goal.returns-clause-flushed
 returns-clause-flushed g c =

@@ -119,22 +119,22 @@ invariant_of-self-in-Some-refusal g c =
     let spares = c.settle-settled.result.spares in
     let end = c.ops-end-2.result in
     let refusal = c.in-Some-refusal.refusal in
-    let since = lost-since given a.members m c.len-count.result c.unassigned_roles-before.result roles spares before after here.placed did.moved did.failed
+    let since = lost-since given a.members m c.len-count.result c.unassigned_roles-before.result roles spares before after here.placed did.keeps.moved did.keeps.failed
     (c.len-count.ensures ∙ here.backed.roles) c.unassigned_roles-before.ensures c.newly_unassigned-lost.ensures in
     let flushed : AreFlushed g.B.Bank.tells given tape tape' a.members m roles false = record {
-      moved = did.moved;
-      few = few-roles m.newest did.moved.placed.fit.valid;
-      since = missing-since roles did.moved since.vacant;
+      moved = did.keeps.moved;
+      few = few-roles m.newest did.keeps.moved.placed.fit.valid;
+      since = missing-since roles did.keeps.moved since.vacant;
       stays = did.stays;
-      rise = risen-told did.rise;
+      rise = risen-told did.keeps.rise;
       others = did.others;
-      unused = did.unused;
+      unused = did.keeps.unused;
       safe = did.safe;
     } in
-    let kept = end-refused a.work a.course a.ahead c.args.who end roles spares due.is due.aside was.kept c.in_default.ensures goes c.requires.caller c.ops-end-2.ensures.count did.grows flushed refusal
+    let kept = end-refused a.work a.course a.ahead c.args.who end roles spares due.is due.aside was.kept c.in_default.ensures goes c.requires.caller c.ops-end-2.ensures.count did.keeps.bank.grows flushed refusal
     (many-of m c.settle-settled.result.refusal refusal c.in-Some-refusal.is did.refused) in
-    ready (entries_of c.args.who end (losses_of roles spares ++ Refused refusal ∷ [])) was did.grows (shapes-moved given a.members m did.moved) kept
-    refl did.counts (behind-keeps c.args.who end roles spares (Refused refusal) (λ n. refl) (λ limit. refl)) (behind-whole tape' (scope_in given a.epoch.uuid a.epoch.given (Some a.backup)) a.epoch.first a.epoch.entries.items c.args.who end roles spares (Refused refusal) did.moved (missing-since roles did.moved since.vacant)) did.given (scope-same given (Some a.backup) did.given c.append_after_losses.ensures.uuid c.append_after_losses.ensures.given) c.append_after_losses.ensures.first refl c.append_after_losses.ensures.items
+    ready (entries_of c.args.who end (losses_of roles spares ++ Refused refusal ∷ [])) was did.keeps.bank.grows (shapes-moved given a.members m did.keeps.moved) kept
+    refl did.keeps.bank.counts (behind-keeps c.args.who end roles spares (Refused refusal) (λ n. refl) (λ limit. refl)) (behind-whole tape' (scope_in given a.epoch.uuid a.epoch.given (Some a.backup)) a.epoch.first a.epoch.entries.items c.args.who end roles spares (Refused refusal) did.keeps.moved (missing-since roles did.keeps.moved since.vacant)) did.keeps.bank.same (scope-same given (Some a.backup) did.keeps.bank.same c.append_after_losses.ensures.uuid c.append_after_losses.ensures.given) c.append_after_losses.ensures.first refl c.append_after_losses.ensures.items
     (room-after-49 a.steps a.epoch.entries.room c.append_after_losses.new.epoch.entries.room was.room_left c.append_after_losses.ensures.room some)
 
 pub returns-in-Some-refusal-clause-called : goal.returns-in-Some-refusal-clause-called
@@ -151,12 +151,12 @@ returns-in-Some-refusal-clause-called g c =
     let spares = c.settle-settled.result.spares in
     let end = c.ops-end-2.result in
     let refusal = c.in-Some-refusal.refusal in
-    let since = lost-since given a.members m c.len-count.result c.unassigned_roles-before.result roles spares before after here.placed did.moved did.failed
+    let since = lost-since given a.members m c.len-count.result c.unassigned_roles-before.result roles spares before after here.placed did.keeps.moved did.keeps.failed
     (c.len-count.ensures ∙ here.backed.roles) c.unassigned_roles-before.ensures c.newly_unassigned-lost.ensures in
-    rw (← c.self.view_is) (called did.grows did.moved
+    rw (← c.self.view_is) (called did.keeps.bank.grows did.keeps.moved
     (ended-behind (g.B.Bank.tape c.settle-settled.new.bank) c.append_after_losses.new.epoch.first a.epoch.entries.items c.args.who end (losses_of roles spares) (Refused refusal) c.append_after_losses.ensures.items c.ops-end-2.ensures.count)
     (losses-behind a.members m before after a.epoch.entries.items a.epoch.entries.items c.append_after_losses.new.epoch.entries.items c.args.who end roles spares (Refused refusal) since tt refl c.append_after_losses.ensures.items)
-    did.counts
+    did.keeps.bank.counts
     (record { uuid = c.append_after_losses.ensures.uuid; given = c.append_after_losses.ensures.given; first = c.append_after_losses.ensures.first; backup = refl; work = refl; ahead = refl; limit = refl })
     (λ t. (was.kept.recorded t).begun))
 
@@ -195,22 +195,22 @@ invariant_of-self-2 g c =
     let spares = c.settle-settled.result.spares in
     let end = c.ops-end-2.result in
     let left = c.all_left-left.result in
-    let since = lost-since given a.members m c.len-count.result c.unassigned_roles-before.result roles spares before after here.placed did.moved did.failed
+    let since = lost-since given a.members m c.len-count.result c.unassigned_roles-before.result roles spares before after here.placed did.keeps.moved did.keeps.failed
     (c.len-count.ensures ∙ here.backed.roles) c.unassigned_roles-before.ensures c.newly_unassigned-lost.ensures in
     let flushed : AreFlushed g.B.Bank.tells given tape tape' a.members m roles false = record {
-      moved = did.moved;
-      few = few-roles m.newest did.moved.placed.fit.valid;
-      since = missing-since roles did.moved since.vacant;
+      moved = did.keeps.moved;
+      few = few-roles m.newest did.keeps.moved.placed.fit.valid;
+      since = missing-since roles did.keeps.moved since.vacant;
       stays = did.stays;
-      rise = risen-told did.rise;
+      rise = risen-told did.keeps.rise;
       others = did.others;
-      unused = did.unused;
+      unused = did.keeps.unused;
       safe = did.safe;
     } in
     let done : AreSettled g.B.Bank.tells given tape tape' a.members m false = record { clean = did.clean c.in_default-refusal.is; settled = did.settled c.in_default-refusal.is } in
-    let kept = end-done a.work a.course a.ahead c.args.who end roles spares due.is due.aside was.kept c.in_default.ensures goes c.requires.caller c.ops-end-2.ensures.count did.grows flushed left c.all_left-left.ensures done in
-    ready-with (entries_of c.args.who end (losses_of roles spares ++ Step EndsResync left ∷ [])) was did.grows (shapes-moved given a.members m did.moved) kept
-    refl did.counts (behind-keeps c.args.who end roles spares (Step EndsResync left) (λ n. refl) (λ limit. refl)) (behind-whole tape' (scope_in given a.epoch.uuid a.epoch.given (Some a.backup)) a.epoch.first a.epoch.entries.items c.args.who end roles spares (Step EndsResync left) did.moved (missing-since roles did.moved since.vacant)) did.given (scope-same given (Some a.backup) did.given c.append_after_losses-2.ensures.uuid c.append_after_losses-2.ensures.given) c.append_after_losses-2.ensures.first refl c.append_after_losses-2.ensures.items
+    let kept = end-done a.work a.course a.ahead c.args.who end roles spares due.is due.aside was.kept c.in_default.ensures goes c.requires.caller c.ops-end-2.ensures.count did.keeps.bank.grows flushed left c.all_left-left.ensures done in
+    ready-with (entries_of c.args.who end (losses_of roles spares ++ Step EndsResync left ∷ [])) was did.keeps.bank.grows (shapes-moved given a.members m did.keeps.moved) kept
+    refl did.keeps.bank.counts (behind-keeps c.args.who end roles spares (Step EndsResync left) (λ n. refl) (λ limit. refl)) (behind-whole tape' (scope_in given a.epoch.uuid a.epoch.given (Some a.backup)) a.epoch.first a.epoch.entries.items c.args.who end roles spares (Step EndsResync left) did.keeps.moved (missing-since roles did.keeps.moved since.vacant)) did.keeps.bank.same (scope-same given (Some a.backup) did.keeps.bank.same c.append_after_losses-2.ensures.uuid c.append_after_losses-2.ensures.given) c.append_after_losses-2.ensures.first refl c.append_after_losses-2.ensures.items
     (room-after-49 a.steps a.epoch.entries.room c.append_after_losses-2.new.epoch.entries.room was.room_left c.append_after_losses-2.ensures.room some)
 
 pub returns-clause-called : goal.returns-clause-called
@@ -227,12 +227,12 @@ returns-clause-called g c =
     let spares = c.settle-settled.result.spares in
     let end = c.ops-end-2.result in
     let event = Step EndsResync c.all_left-left.result in
-    let since = lost-since given a.members m c.len-count.result c.unassigned_roles-before.result roles spares before after here.placed did.moved did.failed
+    let since = lost-since given a.members m c.len-count.result c.unassigned_roles-before.result roles spares before after here.placed did.keeps.moved did.keeps.failed
     (c.len-count.ensures ∙ here.backed.roles) c.unassigned_roles-before.ensures c.newly_unassigned-lost.ensures in
-    rw (← c.self.view_is) (called did.grows did.moved
+    rw (← c.self.view_is) (called did.keeps.bank.grows did.keeps.moved
     (ended-behind (g.B.Bank.tape c.settle-settled.new.bank) c.append_after_losses-2.new.epoch.first a.epoch.entries.items c.args.who end (losses_of roles spares) event c.append_after_losses-2.ensures.items c.ops-end-2.ensures.count)
     (losses-behind a.members m before after a.epoch.entries.items a.epoch.entries.items c.append_after_losses-2.new.epoch.entries.items c.args.who end roles spares event since tt refl c.append_after_losses-2.ensures.items)
-    did.counts
+    did.keeps.bank.counts
     (record { uuid = c.append_after_losses-2.ensures.uuid; given = c.append_after_losses-2.ensures.given; first = c.append_after_losses-2.ensures.first; backup = refl; work = refl; ahead = refl; limit = refl })
     (λ t. (was.kept.recorded t).begun))
 
@@ -241,7 +241,7 @@ returns-clause-left g c =
     let was = c.self.invariant in
     let a = c.self.inside in
     let due = subst (λ p. IsResyncEndDue p) (sym c.self.view_is) c.requires.due in
-    end-left (g.B.Bank.given a.bank) a.members c.settle-settled.new.members a.work a.course a.ahead was.kept.members_are.placed.fit was.kept.members_are.active due.is c.settle-settled.ensures.moved due.aside ∙ ap (λ p. left_in p.parts.work p.parts.members p.course p.ahead) c.self.view_is
+    end-left (g.B.Bank.given a.bank) a.members c.settle-settled.new.members a.work a.course a.ahead was.kept.members_are.placed.fit was.kept.members_are.active due.is c.settle-settled.ensures.keeps.moved due.aside ∙ ap (λ p. left_in p.parts.work p.parts.members p.course p.ahead) c.self.view_is
 
 pub returns-clause-caused : goal.returns-clause-caused
 returns-clause-caused g c = rw (← c.self.view_is) (zero-le _, λ refusal many. never-both c.self.inside.members refusal c.in_default.ensures many)
@@ -297,23 +297,21 @@ returns-in-Some-refusal-clause-entered g c = rw (← c.self.view_is) (record { r
 pub returns-clause-entered : goal.returns-clause-entered
 returns-clause-entered g c = step-entered c.newly_unassigned-lost.result c.settle-settled.result.spares c.ops-end-2.result c.append_after_losses-2.ensures.items c.all_left-left.ensures (ap (λ p. p.parts.entries) c.self.view_is)
 
-pub flush_and_mark-settled-requires-clause-placed : goal.flush_and_mark-settled-requires-clause-placed
-flush_and_mark-settled-requires-clause-placed g c = c.self.invariant.kept.members_are.placed
-
-pub flush_and_mark-settled-requires-clause-unlost : goal.flush_and_mark-settled-requires-clause-unlost
-flush_and_mark-settled-requires-clause-unlost g c = c.self.invariant.kept.members_are.unlost
-
-pub flush_and_mark-settled-requires-clause-free : goal.flush_and_mark-settled-requires-clause-free
-flush_and_mark-settled-requires-clause-free g c = c.self.invariant.kept.members_are.free
-
-pub flush_and_mark-settled-requires-clause-slots : goal.flush_and_mark-settled-requires-clause-slots
-flush_and_mark-settled-requires-clause-slots g c = c.self.invariant.kept.slots
+pub flush_and_mark-settled-requires : goal.flush_and_mark-settled-requires
+flush_and_mark-settled-requires g c = record {
+  stands = record {
+    slots = c.self.invariant.kept.slots;
+    placed = c.self.invariant.kept.members_are.placed;
+    unlost = c.self.invariant.kept.members_are.unlost;
+    free = c.self.invariant.kept.members_are.free;
+  };
+}
 
 pub returns-in-Some-refusal-clause-given : goal.returns-in-Some-refusal-clause-given
-returns-in-Some-refusal-clause-given g c = c.settle-settled.ensures.given ∙ ap (λ p. g.B.Bank.given p.parts.bank) c.self.view_is
+returns-in-Some-refusal-clause-given g c = c.settle-settled.ensures.keeps.bank.same ∙ ap (λ p. g.B.Bank.given p.parts.bank) c.self.view_is
 
 pub returns-clause-given : goal.returns-clause-given
-returns-clause-given g c = c.settle-settled.ensures.given ∙ ap (λ p. g.B.Bank.given p.parts.bank) c.self.view_is
+returns-clause-given g c = c.settle-settled.ensures.keeps.bank.same ∙ ap (λ p. g.B.Bank.given p.parts.bank) c.self.view_is
 
 pub returns-in-Some-clause-given : goal.returns-in-Some-clause-given
 returns-in-Some-clause-given g c = ap (λ p. g.B.Bank.given p.parts.bank) c.self.view_is
@@ -326,24 +324,24 @@ returns-in-Some-refusal-clause-course g c = ap (λ p. p.course) c.self.view_is
 
 pub all_left-left-requires-clause-reshape : goal.all_left-left-requires-clause-reshape
 all_left-left-requires-clause-reshape g c =
-    let moved = c.settle-settled.ensures.moved in
+    let moved = c.settle-settled.ensures.keeps.moved in
     under-way-of c.settle-settled.new.members.newest moved.placed.fit (moved.reshape.reshaping ∙ c.self.invariant.kept.members_are.active)
 
 pub all_left-left-requires-clause-fit : goal.all_left-left-requires-clause-fit
 all_left-left-requires-clause-fit g c =
-    let moved = c.settle-settled.ensures.moved in
+    let moved = c.settle-settled.ensures.keeps.moved in
     moved.placed.fit
 
 pub all_left-left-requires-clause-sound : goal.all_left-left-requires-clause-sound
-all_left-left-requires-clause-sound g c = sound-same (phases_of c.self.inside.ahead) (shapes-moved (g.B.Bank.given c.self.inside.bank) c.self.inside.members c.settle-settled.new.members c.settle-settled.ensures.moved) c.self.invariant.planned
+all_left-left-requires-clause-sound g c = sound-same (phases_of c.self.inside.ahead) (shapes-moved (g.B.Bank.given c.self.inside.bank) c.self.inside.members c.settle-settled.new.members c.settle-settled.ensures.keeps.moved) c.self.invariant.planned
 
 pub all_left-left-requires-clause-zeroed : goal.all_left-left-requires-clause-zeroed
 all_left-left-requires-clause-zeroed g c =
-    let moved = c.settle-settled.ensures.moved in
+    let moved = c.settle-settled.ensures.keeps.moved in
     zeroed-moved _ moved c.self.invariant.kept.course_is.few
 
 pub newly_unassigned-lost-requires-clause-known : goal.newly_unassigned-lost-requires-clause-known
-newly_unassigned-lost-requires-clause-known g c = known-moved c.len-count.result c.settle-settled.ensures.moved c.len-count.ensures c.self.invariant.kept.members_are.placed.roles
+newly_unassigned-lost-requires-clause-known g c = known-moved c.len-count.result c.settle-settled.ensures.keeps.moved c.len-count.ensures c.self.invariant.kept.members_are.placed.roles
 
 pub returns-in-Some-clause-work : goal.returns-in-Some-clause-work
 returns-in-Some-clause-work g c = ap (λ p. p.parts.work) c.self.view_is

@@ -92,23 +92,20 @@ newly_unassigned-roles-requires-clause-few g c =
     let l = c.len-count.ensures in
     omega (arith, few, n, l)
 
-pub record_missing-spares-requires-clause-placed : goal.record_missing-spares-requires-clause-placed
-record_missing-spares-requires-clause-placed g c =
+pub record_missing-spares-requires : goal.record_missing-spares-requires
+record_missing-spares-requires g c =
     let was = c.self.invariant.kept.members_are in
-    placed-out (g.B.Bank.given c.self.inside.bank) c.self.inside.members c.lose_slot.new.members c.lose_slot.result c.in-Some.slot c.args.role was.placed was.unlost
-    c.lose_slot.ensures.members c.lose_slot.ensures.alone c.in-Some.ensures.held
-
-pub record_missing-spares-requires-clause-unlost : goal.record_missing-spares-requires-clause-unlost
-record_missing-spares-requires-clause-unlost g c =
-    let was = c.self.invariant.kept.members_are in
-    unlost-out (g.B.Bank.given c.self.inside.bank) c.self.inside.members c.lose_slot.new.members c.lose_slot.result c.in-Some.slot c.args.role was.placed was.unlost
-    c.lose_slot.ensures.members c.lose_slot.ensures.alone c.in-Some.ensures.held
-
-pub record_missing-spares-requires-clause-free : goal.record_missing-spares-requires-clause-free
-record_missing-spares-requires-clause-free g c =
-    let was = c.self.invariant.kept.members_are in
-    (moved-out (g.B.Bank.given c.self.inside.bank) c.self.inside.members c.lose_slot.new.members c.lose_slot.result c.in-Some.slot c.args.role was.placed was.unlost
-    c.lose_slot.ensures.members c.lose_slot.ensures.alone c.in-Some.ensures.held).free was.free
+    record {
+      stands = record {
+        slots = c.self.invariant.kept.slots;
+        placed = placed-out (g.B.Bank.given c.self.inside.bank) c.self.inside.members c.lose_slot.new.members c.lose_slot.result c.in-Some.slot c.args.role was.placed was.unlost
+            c.lose_slot.ensures.members c.lose_slot.ensures.alone c.in-Some.ensures.held;
+        unlost = unlost-out (g.B.Bank.given c.self.inside.bank) c.self.inside.members c.lose_slot.new.members c.lose_slot.result c.in-Some.slot c.args.role was.placed was.unlost
+            c.lose_slot.ensures.members c.lose_slot.ensures.alone c.in-Some.ensures.held;
+        free = (moved-out (g.B.Bank.given c.self.inside.bank) c.self.inside.members c.lose_slot.new.members c.lose_slot.result c.in-Some.slot c.args.role was.placed was.unlost
+            c.lose_slot.ensures.members c.lose_slot.ensures.alone c.in-Some.ensures.held).free was.free;
+      };
+    }
 
 -- ---- no slot holds the role
 
@@ -167,19 +164,19 @@ invariant_of-self-2 g c =
     let end = c.ops-end-2.result in
     let scope = scope_in given a.epoch.uuid a.epoch.given (Some a.backup) in
     let buffer = bytes_in a.course.window a.window.items in
-    let moved = moved-all given a.members mid m c.lose_slot.result c.in-Some.slot role here.placed here.unlost c.lose_slot.ensures.members c.lose_slot.ensures.alone c.in-Some.ensures.held did.moved in
-    let out = taken-out given a.members mid m c.lose_slot.result c.in-Some.slot role here.placed here.unlost c.lose_slot.ensures.members c.lose_slot.ensures.alone c.in-Some.ensures.held did.moved
-    c.len-count.result c.unassigned_roles-before.result roles spares (g.B.Bank.faults_of a.bank) (g.B.Bank.faults_of c.record_missing-spares.new.bank) did.failed (c.len-count.ensures ∙ here.placed.roles)
-    c.unassigned_roles-before.ensures c.newly_unassigned-roles.ensures g.B.Bank.tells tape tape' did.clean did.rise did.others did.rest did.safe in
+    let moved = moved-all given a.members mid m c.lose_slot.result c.in-Some.slot role here.placed here.unlost c.lose_slot.ensures.members c.lose_slot.ensures.alone c.in-Some.ensures.held did.keeps.moved in
+    let out = taken-out given a.members mid m c.lose_slot.result c.in-Some.slot role here.placed here.unlost c.lose_slot.ensures.members c.lose_slot.ensures.alone c.in-Some.ensures.held did.keeps.moved
+    c.len-count.result c.unassigned_roles-before.result roles spares (g.B.Bank.faults_of a.bank) (g.B.Bank.faults_of c.record_missing-spares.new.bank) did.keeps.failed (c.len-count.ensures ∙ here.placed.roles)
+    c.unassigned_roles-before.ensures c.newly_unassigned-roles.ensures g.B.Bank.tells tape tape' did.clean did.keeps.rise did.others did.rest did.safe in
     let items = behind-loss c.make_room.new.self.items c.enter-2.new.epoch.entries.items c.append_after_losses.new.epoch.entries.items c.args.who end (Lost role Command) (losses_of roles spares ++ Failed role ∷ []) c.enter-2.ensures.items c.append_after_losses.ensures.items in
     ready (entries_of c.args.who end ((Lost role Command ∷ losses_of roles spares) ++ Failed role ∷ []))
-    was did.grows (shapes-moved given a.members m moved)
+    was did.keeps.bank.grows (shapes-moved given a.members m moved)
     (subst (λ (n : ℕ). IsMoving g.B.Bank.tells given tape' scope a.epoch.first (a.epoch.entries.items ++ entries_of c.args.who end ((Lost role Command ∷ losses_of roles spares) ++ Failed role ∷ [])) m (bears a.work) a.work.resync a.course buffer n)
     (sym (left-moved given a.members m a.work.resync a.course a.ahead moved))
     (failed-moves g.B.Bank.tells given tape tape' scope a.epoch.first a.epoch.entries.items a.members m (bears a.work) a.work.resync a.course buffer (left_in a.work a.members a.course a.ahead) c.args.who end role roles spares
-    was.kept (holder-left given a.members role c.in-Some.slot here.placed here.unlost c.in-Some.ensures.held) (begins-going a.epoch.entries.items c.args.who number) (not_254 c.args.who.caller c.requires.caller) c.ops-end-2.ensures.count did.grows out))
-    refl did.counts (record { long = (behind-keeps c.args.who end roles spares (Failed role) (λ n. refl) (λ limit. refl)).long; free = (behind-keeps c.args.who end roles spares (Failed role) (λ n. refl) (λ limit. refl)).free })
-    (λ none whole. takes-lost (world_in given tape' scope a.epoch.first) role a.epoch.entries.items (entries_of c.args.who end ((Lost role Command ∷ losses_of roles spares) ++ Failed role ∷ [])) (lost-here role c.args.who end Command (losses_of roles spares ++ Failed role ∷ [])) none) did.given (scope-same given (Some a.backup) did.given (c.append_after_losses.ensures.uuid ∙ c.enter-2.ensures.uuid) (c.append_after_losses.ensures.given ∙ c.enter-2.ensures.given)) (c.append_after_losses.ensures.first ∙ c.enter-2.ensures.first)
+    was.kept (holder-left given a.members role c.in-Some.slot here.placed here.unlost c.in-Some.ensures.held) (begins-going a.epoch.entries.items c.args.who number) (not_254 c.args.who.caller c.requires.caller) c.ops-end-2.ensures.count did.keeps.bank.grows out))
+    refl did.keeps.bank.counts (record { long = (behind-keeps c.args.who end roles spares (Failed role) (λ n. refl) (λ limit. refl)).long; free = (behind-keeps c.args.who end roles spares (Failed role) (λ n. refl) (λ limit. refl)).free })
+    (λ none whole. takes-lost (world_in given tape' scope a.epoch.first) role a.epoch.entries.items (entries_of c.args.who end ((Lost role Command ∷ losses_of roles spares) ++ Failed role ∷ [])) (lost-here role c.args.who end Command (losses_of roles spares ++ Failed role ∷ [])) none) did.keeps.bank.same (scope-same given (Some a.backup) did.keeps.bank.same (c.append_after_losses.ensures.uuid ∙ c.enter-2.ensures.uuid) (c.append_after_losses.ensures.given ∙ c.enter-2.ensures.given)) (c.append_after_losses.ensures.first ∙ c.enter-2.ensures.first)
     c.make_room.ensures.items items (omega (arith, c.append_after_losses.ensures.room, c.enter-2.ensures.room, c.in-Ok.ensures.ok))
 
 pub returns-clause-answered : goal.returns-clause-answered
@@ -208,15 +205,15 @@ returns-clause-called g c =
     let roles = c.newly_unassigned-roles.result in
     let spares = c.record_missing-spares.result in
     let end = c.ops-end-2.result in
-    let moved = moved-all given a.members mid m c.lose_slot.result c.in-Some.slot role here.placed here.unlost c.lose_slot.ensures.members c.lose_slot.ensures.alone c.in-Some.ensures.held did.moved in
-    let since = since-out given a.members mid m c.lose_slot.result c.in-Some.slot role here.placed here.unlost c.lose_slot.ensures.members c.lose_slot.ensures.alone c.in-Some.ensures.held did.moved
-    c.len-count.result c.unassigned_roles-before.result roles spares before after did.failed (c.len-count.ensures ∙ here.placed.roles) c.unassigned_roles-before.ensures c.newly_unassigned-roles.ensures in
+    let moved = moved-all given a.members mid m c.lose_slot.result c.in-Some.slot role here.placed here.unlost c.lose_slot.ensures.members c.lose_slot.ensures.alone c.in-Some.ensures.held did.keeps.moved in
+    let since = since-out given a.members mid m c.lose_slot.result c.in-Some.slot role here.placed here.unlost c.lose_slot.ensures.members c.lose_slot.ensures.alone c.in-Some.ensures.held did.keeps.moved
+    c.len-count.result c.unassigned_roles-before.result roles spares before after did.keeps.failed (c.len-count.ensures ∙ here.placed.roles) c.unassigned_roles-before.ensures c.newly_unassigned-roles.ensures in
     let first = moved-out given a.members mid c.lose_slot.result c.in-Some.slot role here.placed here.unlost c.lose_slot.ensures.members c.lose_slot.ensures.alone c.in-Some.ensures.held in
     let items = behind-loss c.make_room.new.self.items c.enter-2.new.epoch.entries.items c.append_after_losses.new.epoch.entries.items c.args.who end (Lost role Command) (losses_of roles spares ++ Failed role ∷ []) c.enter-2.ensures.items c.append_after_losses.ensures.items in
-    called-over g.B.Bank.given g.B.Bank.tape g.B.Bank.faults_of c.self.view_is (called did.grows moved
+    called-over g.B.Bank.given g.B.Bank.tape g.B.Bank.faults_of c.self.view_is (called did.keeps.bank.grows moved
     (ended-behind (g.B.Bank.tape c.record_missing-spares.new.bank) c.append_after_losses.new.epoch.first c.make_room.new.self.items c.args.who end (Lost role Command ∷ losses_of roles spares) (Failed role) items c.ops-end-2.ensures.count)
     (losses-failed a.members mid m before after a.epoch.entries.items c.make_room.new.self.items c.append_after_losses.new.epoch.entries.items c.args.who end role c.in-Some.slot roles spares first.held first.fewer since c.in-Some.ensures.held c.make_room.ensures.items items)
-    did.counts
+    did.keeps.bank.counts
     (record { uuid = c.append_after_losses.ensures.uuid ∙ c.enter-2.ensures.uuid; given = c.append_after_losses.ensures.given ∙ c.enter-2.ensures.given; first = c.append_after_losses.ensures.first ∙ c.enter-2.ensures.first; backup = refl; work = refl; ahead = refl; limit = refl })
     (λ t. (was.kept.recorded t).begun))
 
@@ -228,7 +225,7 @@ returns-clause-caused g c =
     let here = c.self.invariant.kept.members_are in
     let a = c.self.inside in
     let gone = out-vacant (g.B.Bank.given a.bank) a.members c.lose_slot.new.members c.lose_slot.result c.in-Some.slot c.args.role here.placed here.unlost c.lose_slot.ensures.members c.lose_slot.ensures.alone c.in-Some.ensures.held in
-    rw (← c.self.view_is) (c.in-Some.ensures.some, vacant-moved c.record_missing-spares.ensures.moved c.args.role gone)
+    rw (← c.self.view_is) (c.in-Some.ensures.some, vacant-moved c.record_missing-spares.ensures.keeps.moved c.args.role gone)
 
 -- ---- by what stands above
 
@@ -246,7 +243,7 @@ unassigned_roles-before-requires-clause-known g c =
 pub newly_unassigned-roles-requires-clause-known : goal.newly_unassigned-roles-requires-clause-known
 newly_unassigned-roles-requires-clause-known g c =
     let was = c.self.invariant.kept.members_are in
-    known-moved c.len-count.result (moved-all (g.B.Bank.given c.self.inside.bank) c.self.inside.members c.lose_slot.new.members c.record_missing-spares.new.members c.lose_slot.result c.in-Some.slot c.args.role was.placed was.unlost c.lose_slot.ensures.members c.lose_slot.ensures.alone c.in-Some.ensures.held c.record_missing-spares.ensures.moved) c.len-count.ensures was.placed.roles
+    known-moved c.len-count.result (moved-all (g.B.Bank.given c.self.inside.bank) c.self.inside.members c.lose_slot.new.members c.record_missing-spares.new.members c.lose_slot.result c.in-Some.slot c.args.role was.placed was.unlost c.lose_slot.ensures.members c.lose_slot.ensures.alone c.in-Some.ensures.held c.record_missing-spares.ensures.keeps.moved) c.len-count.ensures was.placed.roles
 
 pub returns-in_default-clause-caused : goal.returns-in_default-clause-caused
 returns-in_default-clause-caused g c = rw (← c.self.view_is) (refl, refl, c.in_default.ensures.none)
@@ -284,7 +281,7 @@ pub returns-clause-course : goal.returns-clause-course
 returns-clause-course g c = ap (λ p. p.course) c.self.view_is
 
 pub returns-clause-given : goal.returns-clause-given
-returns-clause-given g c = c.record_missing-spares.ensures.given ∙ ap (λ p. g.B.Bank.given p.parts.bank) c.self.view_is
+returns-clause-given g c = c.record_missing-spares.ensures.keeps.bank.same ∙ ap (λ p. g.B.Bank.given p.parts.bank) c.self.view_is
 
 pub append_entry-requires-2-clause-number : goal.append_entry-requires-2-clause-number
 append_entry-requires-2-clause-number g c = c.check_number.ensures

@@ -145,14 +145,14 @@ invariant_of-self-in-Some-refusal g c =
     let spares = c.resync_list-mended.result.spares in
     let end = c.ops-end-2.result in
     let refusal = c.in-Some-refusal.refusal in
-    let since = lost-since given a.members m c.len-count.result c.unassigned_roles-before.result roles spares before after here.placed did.moved did.failed
+    let since = lost-since given a.members m c.len-count.result c.unassigned_roles-before.result roles spares before after here.placed did.keeps.moved did.keeps.failed
     (c.len-count.ensures ∙ here.backed.roles) c.unassigned_roles-before.ensures c.newly_unassigned-roles.ensures in
-    let step = mend-step given a.members m tape tape' stripes roles spares before after did.moved did.grows since did.dirty did.rise did.unused did.others did.kept did.stands did.tail did.ends did.safe in
+    let step = mend-step given a.members m tape tape' stripes roles spares before after did.keeps.moved did.keeps.bank.grows since did.dirty did.keeps.rise did.keeps.unused did.others did.kept did.stands did.tail did.ends did.safe in
     let kept = mend-refused a.work a.course a.ahead c.args.who end roles spares stripes next.0 next.1 due.aside was.kept c.in_default.ensures.why goes c.requires.caller c.ops-end-2.ensures.count step refusal
     (refused-why (IsNotSynced (resync_shape a.members.newest stripes) m) (DoWithout m) c.resync_list-mended.result.refusal refusal c.in-Some-refusal.is did.refused) in
     with-buffers (omega (arith, was.rows_fit, did.rows)) (rw did.buffer was.buffer_fits)
-    (ready (entries_of c.args.who end (losses_of roles spares ++ Refused refusal ∷ [])) was did.grows (shapes-moved given a.members m did.moved) kept
-    refl did.counts (behind-keeps c.args.who end roles spares (Refused refusal) (λ n. refl) (λ limit. refl)) (behind-whole tape' (scope_in given a.epoch.uuid a.epoch.given (Some a.backup)) a.epoch.first a.epoch.entries.items c.args.who end roles spares (Refused refusal) did.moved (missing-since roles did.moved since.vacant)) did.given (scope-same given (Some a.backup) did.given c.append_after_losses.ensures.uuid c.append_after_losses.ensures.given) c.append_after_losses.ensures.first refl c.append_after_losses.ensures.items
+    (ready (entries_of c.args.who end (losses_of roles spares ++ Refused refusal ∷ [])) was did.keeps.bank.grows (shapes-moved given a.members m did.keeps.moved) kept
+    refl did.keeps.bank.counts (behind-keeps c.args.who end roles spares (Refused refusal) (λ n. refl) (λ limit. refl)) (behind-whole tape' (scope_in given a.epoch.uuid a.epoch.given (Some a.backup)) a.epoch.first a.epoch.entries.items c.args.who end roles spares (Refused refusal) did.keeps.moved (missing-since roles did.keeps.moved since.vacant)) did.keeps.bank.same (scope-same given (Some a.backup) did.keeps.bank.same c.append_after_losses.ensures.uuid c.append_after_losses.ensures.given) c.append_after_losses.ensures.first refl c.append_after_losses.ensures.items
     (omega (arith, c.append_after_losses.ensures.room, was.room_left, some)))
 
 pub returns-in-Some-refusal-clause-called : goal.returns-in-Some-refusal-clause-called
@@ -169,12 +169,12 @@ returns-in-Some-refusal-clause-called g c =
     let spares = c.resync_list-mended.result.spares in
     let end = c.ops-end-2.result in
     let refusal = c.in-Some-refusal.refusal in
-    let since = lost-since given a.members m c.len-count.result c.unassigned_roles-before.result roles spares before after here.placed did.moved did.failed
+    let since = lost-since given a.members m c.len-count.result c.unassigned_roles-before.result roles spares before after here.placed did.keeps.moved did.keeps.failed
     (c.len-count.ensures ∙ here.backed.roles) c.unassigned_roles-before.ensures c.newly_unassigned-roles.ensures in
-    rw (← c.self.view_is) (called did.grows did.moved
+    rw (← c.self.view_is) (called did.keeps.bank.grows did.keeps.moved
     (ended-behind (g.B.Bank.tape c.resync_list-mended.new.bank) c.append_after_losses.new.epoch.first a.epoch.entries.items c.args.who end (losses_of roles spares) (Refused refusal) c.append_after_losses.ensures.items c.ops-end-2.ensures.count)
     (losses-behind a.members m before after a.epoch.entries.items a.epoch.entries.items c.append_after_losses.new.epoch.entries.items c.args.who end roles spares (Refused refusal) since tt refl c.append_after_losses.ensures.items)
-    did.counts
+    did.keeps.bank.counts
     (record { uuid = c.append_after_losses.ensures.uuid; given = c.append_after_losses.ensures.given; first = c.append_after_losses.ensures.first; backup = refl; work = refl; ahead = refl; limit = refl })
     (λ t. (was.kept.recorded t).begun))
 
@@ -237,15 +237,15 @@ invariant_of-self-2 g c =
     let spares = c.resync_list-mended.result.spares in
     let end = c.ops-end-2.result in
     let left = c.all_left-left.result in
-    let since = lost-since given a.members m c.len-count.result c.unassigned_roles-before.result roles spares before after here.placed did.moved did.failed
+    let since = lost-since given a.members m c.len-count.result c.unassigned_roles-before.result roles spares before after here.placed did.keeps.moved did.keeps.failed
     (c.len-count.ensures ∙ here.backed.roles) c.unassigned_roles-before.ensures c.newly_unassigned-roles.ensures in
-    let step = mend-step given a.members m tape tape' stripes roles spares before after did.moved did.grows since did.dirty did.rise did.unused did.others did.kept did.stands did.tail did.ends did.safe in
+    let step = mend-step given a.members m tape tape' stripes roles spares before after did.keeps.moved did.keeps.bank.grows since did.dirty did.keeps.rise did.keeps.unused did.others did.kept did.stands did.tail did.ends did.safe in
     let kept = mend-done a.work a.course a.ahead c.args.who end roles spares stripes next.0 next.1 due.aside was.kept c.in_default.ensures.why goes c.requires.caller c.ops-end-2.ensures.count step
     left c.all_left-left.ensures
     (done-why (IsNotSynced (resync_shape a.members.newest stripes) m) (DoWithout m) c.resync_list-mended.result.refusal c.in_default-refusal.is did.refused) (did.mended c.in_default-refusal.is) in
     with-buffers (omega (arith, was.rows_fit, did.rows)) (rw did.buffer was.buffer_fits)
-    (ready-with (entries_of c.args.who end (losses_of roles spares ++ Step ResyncsStripe left ∷ [])) was did.grows (shapes-moved given a.members m did.moved) kept
-    refl did.counts (behind-keeps c.args.who end roles spares (Step ResyncsStripe left) (λ n. refl) (λ limit. refl)) (behind-whole tape' (scope_in given a.epoch.uuid a.epoch.given (Some a.backup)) a.epoch.first a.epoch.entries.items c.args.who end roles spares (Step ResyncsStripe left) did.moved (missing-since roles did.moved since.vacant)) did.given (scope-same given (Some a.backup) did.given c.append_after_losses-2.ensures.uuid c.append_after_losses-2.ensures.given) c.append_after_losses-2.ensures.first refl c.append_after_losses-2.ensures.items
+    (ready-with (entries_of c.args.who end (losses_of roles spares ++ Step ResyncsStripe left ∷ [])) was did.keeps.bank.grows (shapes-moved given a.members m did.keeps.moved) kept
+    refl did.keeps.bank.counts (behind-keeps c.args.who end roles spares (Step ResyncsStripe left) (λ n. refl) (λ limit. refl)) (behind-whole tape' (scope_in given a.epoch.uuid a.epoch.given (Some a.backup)) a.epoch.first a.epoch.entries.items c.args.who end roles spares (Step ResyncsStripe left) did.keeps.moved (missing-since roles did.keeps.moved since.vacant)) did.keeps.bank.same (scope-same given (Some a.backup) did.keeps.bank.same c.append_after_losses-2.ensures.uuid c.append_after_losses-2.ensures.given) c.append_after_losses-2.ensures.first refl c.append_after_losses-2.ensures.items
     (omega (arith, c.append_after_losses-2.ensures.room, was.room_left, some)))
 
 pub returns-clause-called : goal.returns-clause-called
@@ -262,12 +262,12 @@ returns-clause-called g c =
     let spares = c.resync_list-mended.result.spares in
     let end = c.ops-end-2.result in
     let event = Step ResyncsStripe c.all_left-left.result in
-    let since = lost-since given a.members m c.len-count.result c.unassigned_roles-before.result roles spares before after here.placed did.moved did.failed
+    let since = lost-since given a.members m c.len-count.result c.unassigned_roles-before.result roles spares before after here.placed did.keeps.moved did.keeps.failed
     (c.len-count.ensures ∙ here.backed.roles) c.unassigned_roles-before.ensures c.newly_unassigned-roles.ensures in
-    rw (← c.self.view_is) (called did.grows did.moved
+    rw (← c.self.view_is) (called did.keeps.bank.grows did.keeps.moved
     (ended-behind (g.B.Bank.tape c.resync_list-mended.new.bank) c.append_after_losses-2.new.epoch.first a.epoch.entries.items c.args.who end (losses_of roles spares) event c.append_after_losses-2.ensures.items c.ops-end-2.ensures.count)
     (losses-behind a.members m before after a.epoch.entries.items a.epoch.entries.items c.append_after_losses-2.new.epoch.entries.items c.args.who end roles spares event since tt refl c.append_after_losses-2.ensures.items)
-    did.counts
+    did.keeps.bank.counts
     (record { uuid = c.append_after_losses-2.ensures.uuid; given = c.append_after_losses-2.ensures.given; first = c.append_after_losses-2.ensures.first; backup = refl; work = refl; ahead = refl; limit = refl })
     (λ t. (was.kept.recorded t).begun))
 
@@ -284,7 +284,7 @@ returns-clause-left g c =
     let due = subst (λ p. IsResyncDue p) (sym c.self.view_is) c.requires.due in
     let next = next-of _ c.unwrap_or-stripes.result due c.unwrap_or-stripes.ensures in
     rw (← c.self.view_is) (mend-left (g.B.Bank.given a.bank) a.members c.resync_list-mended.new.members a.work a.course a.ahead c.unwrap_or-stripes.result was.kept.members_are.placed.fit was.kept.members_are.active next.0 next.1
-    c.resync_list-mended.ensures.moved due.aside)
+    c.resync_list-mended.ensures.keeps.moved due.aside)
 
 pub returns-clause-caused : goal.returns-clause-caused
 returns-clause-caused g c =
@@ -324,21 +324,17 @@ returns-in-Some-clause-room g c = one-fewer c.self.inside.steps c.args.self.now.
 pub returns-in-Some-clause-given : goal.returns-in-Some-clause-given
 returns-in-Some-clause-given g c = ap (λ p. g.B.Bank.given p.parts.bank) c.self.view_is
 
-pub resync_list-mended-requires-clause-slots : goal.resync_list-mended-requires-clause-slots
-resync_list-mended-requires-clause-slots g c = c.self.invariant.kept.slots
-
-pub resync_list-mended-requires-clause-placed : goal.resync_list-mended-requires-clause-placed
-resync_list-mended-requires-clause-placed g c = c.self.invariant.kept.members_are.placed
-
-pub resync_list-mended-requires-clause-unlost : goal.resync_list-mended-requires-clause-unlost
-resync_list-mended-requires-clause-unlost g c = c.self.invariant.kept.members_are.unlost
-
-pub resync_list-mended-requires-clause-free : goal.resync_list-mended-requires-clause-free
-resync_list-mended-requires-clause-free g c = c.self.invariant.kept.members_are.free
+pub resync_list-mended-requires-clause-stands : goal.resync_list-mended-requires-clause-stands
+resync_list-mended-requires-clause-stands g c = record {
+  slots = c.self.invariant.kept.slots;
+  placed = c.self.invariant.kept.members_are.placed;
+  unlost = c.self.invariant.kept.members_are.unlost;
+  free = c.self.invariant.kept.members_are.free;
+}
 
 pub newly_unassigned-roles-requires-clause-known : goal.newly_unassigned-roles-requires-clause-known
 newly_unassigned-roles-requires-clause-known g c =
-    roles-moved (g.B.Bank.given c.self.inside.bank) c.self.inside.members c.resync_list-mended.new.members c.resync_list-mended.ensures.moved c.len-count.result c.len-count.ensures c.self.invariant.kept.members_are.placed.roles
+    roles-moved (g.B.Bank.given c.self.inside.bank) c.self.inside.members c.resync_list-mended.new.members c.resync_list-mended.ensures.keeps.moved c.len-count.result c.len-count.ensures c.self.invariant.kept.members_are.placed.roles
 
 pub append_after_losses-requires-clause-room : goal.append_after_losses-requires-clause-room
 append_after_losses-requires-clause-room g c = room-behind c.self.inside.steps c.args.self.now.parts.steps c.self.inside.epoch.entries.room (ap (λ p. p.parts.steps) c.self.view_is) c.requires.room c.self.invariant.room_left
@@ -357,22 +353,22 @@ pub returns-in-Some-refusal-clause-room : goal.returns-in-Some-refusal-clause-ro
 returns-in-Some-refusal-clause-room g c = one-fewer c.self.inside.steps c.args.self.now.parts.steps (ap (λ p. p.parts.steps) c.self.view_is) c.requires.room
 
 pub returns-in-Some-refusal-clause-given : goal.returns-in-Some-refusal-clause-given
-returns-in-Some-refusal-clause-given g c = c.resync_list-mended.ensures.given ∙ ap (λ p. g.B.Bank.given p.parts.bank) c.self.view_is
+returns-in-Some-refusal-clause-given g c = c.resync_list-mended.ensures.keeps.bank.same ∙ ap (λ p. g.B.Bank.given p.parts.bank) c.self.view_is
 
 pub all_left-left-requires-clause-fit : goal.all_left-left-requires-clause-fit
-all_left-left-requires-clause-fit g c = c.resync_list-mended.ensures.moved.placed.fit
+all_left-left-requires-clause-fit g c = c.resync_list-mended.ensures.keeps.moved.placed.fit
 
 pub all_left-left-requires-clause-reshape : goal.all_left-left-requires-clause-reshape
 all_left-left-requires-clause-reshape g c =
-    under-way-moved (g.B.Bank.given c.self.inside.bank) c.self.inside.members c.resync_list-mended.new.members c.resync_list-mended.ensures.moved c.self.invariant.kept.members_are.active
+    under-way-moved (g.B.Bank.given c.self.inside.bank) c.self.inside.members c.resync_list-mended.new.members c.resync_list-mended.ensures.keeps.moved c.self.invariant.kept.members_are.active
 
 pub all_left-left-requires-clause-zeroed : goal.all_left-left-requires-clause-zeroed
 all_left-left-requires-clause-zeroed g c =
-    zeroed-moved (g.B.Bank.given c.self.inside.bank) c.self.inside.members c.resync_list-mended.new.members c.resync_list-mended.ensures.moved c.self.inside.course.zeroed c.self.invariant.kept.course_is.few
+    zeroed-moved (g.B.Bank.given c.self.inside.bank) c.self.inside.members c.resync_list-mended.new.members c.resync_list-mended.ensures.keeps.moved c.self.inside.course.zeroed c.self.invariant.kept.course_is.few
 
 pub all_left-left-requires-clause-sound : goal.all_left-left-requires-clause-sound
 all_left-left-requires-clause-sound g c =
-    sound-moved (g.B.Bank.given c.self.inside.bank) c.self.inside.members c.resync_list-mended.new.members c.resync_list-mended.ensures.moved (phases_of c.self.inside.ahead) c.self.invariant.planned
+    sound-moved (g.B.Bank.given c.self.inside.bank) c.self.inside.members c.resync_list-mended.new.members c.resync_list-mended.ensures.keeps.moved (phases_of c.self.inside.ahead) c.self.invariant.planned
 
 pub append_after_losses-requires-2-clause-room : goal.append_after_losses-requires-2-clause-room
 append_after_losses-requires-2-clause-room g c = room-behind c.self.inside.steps c.args.self.now.parts.steps c.self.inside.epoch.entries.room (ap (λ p. p.parts.steps) c.self.view_is) c.requires.room c.self.invariant.room_left
@@ -391,4 +387,4 @@ pub returns-clause-room : goal.returns-clause-room
 returns-clause-room g c = one-fewer c.self.inside.steps c.args.self.now.parts.steps (ap (λ p. p.parts.steps) c.self.view_is) c.requires.room
 
 pub returns-clause-given : goal.returns-clause-given
-returns-clause-given g c = c.resync_list-mended.ensures.given ∙ ap (λ p. g.B.Bank.given p.parts.bank) c.self.view_is
+returns-clause-given g c = c.resync_list-mended.ensures.keeps.bank.same ∙ ap (λ p. g.B.Bank.given p.parts.bank) c.self.view_is

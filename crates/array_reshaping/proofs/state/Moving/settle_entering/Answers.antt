@@ -76,26 +76,26 @@ invariant_of-self-2 g c =
     let roles = c.newly_unassigned-roles.result in
     let spares = c.settle-settled.result.spares in
     let end = c.ops-end-2.result in
-    let since = lost-since given a.members m c.len-count.result c.unassigned_roles-before.result roles spares (g.B.Bank.faults_of a.bank) (g.B.Bank.faults_of c.settle-settled.new.bank) was.kept.members_are.placed did.moved did.failed
+    let since = lost-since given a.members m c.len-count.result c.unassigned_roles-before.result roles spares (g.B.Bank.faults_of a.bank) (g.B.Bank.faults_of c.settle-settled.new.bank) was.kept.members_are.placed did.keeps.moved did.keeps.failed
     (c.len-count.ensures ∙ was.kept.members_are.backed.roles) c.unassigned_roles-before.ensures c.newly_unassigned-roles.ensures in
     let flushed : AreFlushed g.B.Bank.tells given tape tape' a.members m roles c.is_some.result =
     record {
-      moved = did.moved;
-      few = few-roles m.newest did.moved.placed.fit.valid;
-      since = missing-since roles did.moved since.vacant;
+      moved = did.keeps.moved;
+      few = few-roles m.newest did.keeps.moved.placed.fit.valid;
+      since = missing-since roles did.keeps.moved since.vacant;
       stays = did.stays;
-      rise = risen-told did.rise;
+      rise = risen-told did.keeps.rise;
       others = did.others;
-      unused = did.unused;
+      unused = did.keeps.unused;
       safe = did.safe;
     } in
     let kept = flushed-moves g.B.Bank.tells given tape tape' scope a.epoch.first a.epoch.entries.items a.members m (bears a.work) a.work.resync a.course (bytes_in a.course.window a.window.items) (left_in a.work a.members a.course a.ahead)
-    c.args.who end roles spares c.is_some.result was.kept (live-of was.kept c.in_default.ensures) (begins-going a.epoch.entries.items c.args.who number) (not_254 c.args.who.caller c.requires.caller) c.ops-end-2.ensures.count did.grows flushed c.is_some.ensures c.args.event (settles-so c.args.event c.requires.event)
+    c.args.who end roles spares c.is_some.result was.kept (live-of was.kept c.in_default.ensures) (begins-going a.epoch.entries.items c.args.who number) (not_254 c.args.who.caller c.requires.caller) c.ops-end-2.ensures.count did.keeps.bank.grows flushed c.is_some.ensures c.args.event (settles-so c.args.event c.requires.event)
     (record { clean = did.clean c.in_default-refusal.is; settled = did.settled c.in_default-refusal.is }) in
-    ready (entries_of c.args.who end (losses_of roles spares ++ c.args.event ∷ [])) was did.grows (shapes-moved given a.members m did.moved)
+    ready (entries_of c.args.who end (losses_of roles spares ++ c.args.event ∷ [])) was did.keeps.bank.grows (shapes-moved given a.members m did.keeps.moved)
     (subst (λ (left : ℕ). IsMoving g.B.Bank.tells given tape' scope a.epoch.first (a.epoch.entries.items ++ entries_of c.args.who end (losses_of roles spares ++ c.args.event ∷ [])) m (bears a.work) a.work.resync a.course (bytes_in a.course.window a.window.items) left)
-    (sym (left-moved given a.members m a.work.resync a.course a.ahead did.moved)) kept)
-    refl did.counts (behind-keeps c.args.who end roles spares c.args.event (settling-long c.args.event c.requires.event) (settling-free c.args.event c.requires.event)) (behind-whole tape' (scope_in given a.epoch.uuid a.epoch.given (Some a.backup)) a.epoch.first a.epoch.entries.items c.args.who end roles spares c.args.event did.moved (missing-since roles did.moved since.vacant)) did.given (scope-same given (Some a.backup) did.given c.append_after_losses-2.ensures.uuid c.append_after_losses-2.ensures.given) c.append_after_losses-2.ensures.first c.make_room.ensures.items c.append_after_losses-2.ensures.items
+    (sym (left-moved given a.members m a.work.resync a.course a.ahead did.keeps.moved)) kept)
+    refl did.keeps.bank.counts (behind-keeps c.args.who end roles spares c.args.event (settling-long c.args.event c.requires.event) (settling-free c.args.event c.requires.event)) (behind-whole tape' (scope_in given a.epoch.uuid a.epoch.given (Some a.backup)) a.epoch.first a.epoch.entries.items c.args.who end roles spares c.args.event did.keeps.moved (missing-since roles did.keeps.moved since.vacant)) did.keeps.bank.same (scope-same given (Some a.backup) did.keeps.bank.same c.append_after_losses-2.ensures.uuid c.append_after_losses-2.ensures.given) c.append_after_losses-2.ensures.first c.make_room.ensures.items c.append_after_losses-2.ensures.items
     (omega (arith, c.append_after_losses-2.ensures.room, c.in-Ok.ensures.ok))
 
 pub invariant_of-self-in-Some-refusal : goal.invariant_of-self-in-Some-refusal
@@ -113,26 +113,26 @@ invariant_of-self-in-Some-refusal g c =
     let spares = c.settle-settled.result.spares in
     let end = c.ops-end-2.result in
     let refusal = c.in-Some-refusal.refusal in
-    let since = lost-since given a.members m c.len-count.result c.unassigned_roles-before.result roles spares (g.B.Bank.faults_of a.bank) (g.B.Bank.faults_of c.settle-settled.new.bank) was.kept.members_are.placed did.moved did.failed
+    let since = lost-since given a.members m c.len-count.result c.unassigned_roles-before.result roles spares (g.B.Bank.faults_of a.bank) (g.B.Bank.faults_of c.settle-settled.new.bank) was.kept.members_are.placed did.keeps.moved did.keeps.failed
     (c.len-count.ensures ∙ was.kept.members_are.backed.roles) c.unassigned_roles-before.ensures c.newly_unassigned-roles.ensures in
     let flushed : AreFlushed g.B.Bank.tells given tape tape' a.members m roles c.is_some.result =
     record {
-      moved = did.moved;
-      few = few-roles m.newest did.moved.placed.fit.valid;
-      since = missing-since roles did.moved since.vacant;
+      moved = did.keeps.moved;
+      few = few-roles m.newest did.keeps.moved.placed.fit.valid;
+      since = missing-since roles did.keeps.moved since.vacant;
       stays = did.stays;
-      rise = risen-told did.rise;
+      rise = risen-told did.keeps.rise;
       others = did.others;
-      unused = did.unused;
+      unused = did.keeps.unused;
       safe = did.safe;
     } in
     let kept = unflushed-moves g.B.Bank.tells given tape tape' scope a.epoch.first a.epoch.entries.items a.members m (bears a.work) a.work.resync a.course (bytes_in a.course.window a.window.items) (left_in a.work a.members a.course a.ahead)
-    c.args.who end roles spares c.is_some.result was.kept (live-of was.kept c.in_default.ensures) (begins-going a.epoch.entries.items c.args.who number) (not_254 c.args.who.caller c.requires.caller) c.ops-end-2.ensures.count did.grows flushed c.is_some.ensures refusal
+    c.args.who end roles spares c.is_some.result was.kept (live-of was.kept c.in_default.ensures) (begins-going a.epoch.entries.items c.args.who number) (not_254 c.args.who.caller c.requires.caller) c.ops-end-2.ensures.count did.keeps.bank.grows flushed c.is_some.ensures refusal
     (many-of m c.settle-settled.result.refusal refusal c.in-Some-refusal.is did.refused) in
-    ready (entries_of c.args.who end (losses_of roles spares ++ Refused refusal ∷ [])) was did.grows (shapes-moved given a.members m did.moved)
+    ready (entries_of c.args.who end (losses_of roles spares ++ Refused refusal ∷ [])) was did.keeps.bank.grows (shapes-moved given a.members m did.keeps.moved)
     (subst (λ (left : ℕ). IsMoving g.B.Bank.tells given tape' scope a.epoch.first (a.epoch.entries.items ++ entries_of c.args.who end (losses_of roles spares ++ Refused refusal ∷ [])) m (bears a.work) a.work.resync a.course (bytes_in a.course.window a.window.items) left)
-    (sym (left-moved given a.members m a.work.resync a.course a.ahead did.moved)) kept)
-    refl did.counts (behind-keeps c.args.who end roles spares (Refused refusal) (λ n. refl) (λ limit. refl)) (behind-whole tape' (scope_in given a.epoch.uuid a.epoch.given (Some a.backup)) a.epoch.first a.epoch.entries.items c.args.who end roles spares (Refused refusal) did.moved (missing-since roles did.moved since.vacant)) did.given (scope-same given (Some a.backup) did.given c.append_after_losses.ensures.uuid c.append_after_losses.ensures.given) c.append_after_losses.ensures.first c.make_room.ensures.items c.append_after_losses.ensures.items
+    (sym (left-moved given a.members m a.work.resync a.course a.ahead did.keeps.moved)) kept)
+    refl did.keeps.bank.counts (behind-keeps c.args.who end roles spares (Refused refusal) (λ n. refl) (λ limit. refl)) (behind-whole tape' (scope_in given a.epoch.uuid a.epoch.given (Some a.backup)) a.epoch.first a.epoch.entries.items c.args.who end roles spares (Refused refusal) did.keeps.moved (missing-since roles did.keeps.moved since.vacant)) did.keeps.bank.same (scope-same given (Some a.backup) did.keeps.bank.same c.append_after_losses.ensures.uuid c.append_after_losses.ensures.given) c.append_after_losses.ensures.first c.make_room.ensures.items c.append_after_losses.ensures.items
     (omega (arith, c.append_after_losses.ensures.room, c.in-Ok.ensures.ok))
 
 pub returns-clause-called : goal.returns-clause-called
@@ -148,16 +148,16 @@ returns-clause-called g c =
     let roles = c.newly_unassigned-roles.result in
     let spares = c.settle-settled.result.spares in
     let end = c.ops-end-2.result in
-    let since = lost-since given a.members m c.len-count.result c.unassigned_roles-before.result roles spares before after was.kept.members_are.placed did.moved did.failed
+    let since = lost-since given a.members m c.len-count.result c.unassigned_roles-before.result roles spares before after was.kept.members_are.placed did.keeps.moved did.keeps.failed
     (c.len-count.ensures ∙ was.kept.members_are.backed.roles) c.unassigned_roles-before.ensures c.newly_unassigned-roles.ensures in
     rw (← c.self.view_is) (record {
-      grows = did.grows;
+      grows = did.keeps.bank.grows;
       ended = ended-behind (g.B.Bank.tape c.settle-settled.new.bank) c.append_after_losses-2.new.epoch.first c.make_room.new.self.items c.args.who end (losses_of roles spares) c.args.event c.append_after_losses-2.ensures.items c.ops-end-2.ensures.count;
-      held = did.moved.held;
-      spares = did.moved.fewer;
+      held = did.keeps.moved.held;
+      spares = did.keeps.moved.fewer;
       losses = losses-behind a.members m before after a.epoch.entries.items c.make_room.new.self.items c.append_after_losses-2.new.epoch.entries.items c.args.who end roles spares
           c.args.event since (settling-no-loss a.members before after c.args.event c.requires.event) c.make_room.ensures.items c.append_after_losses-2.ensures.items;
-      never_falls = did.counts;
+      never_falls = did.keeps.bank.counts;
       work = refl;
       same = record {
         array = record {
@@ -165,13 +165,13 @@ returns-clause-called g c =
           given = c.append_after_losses-2.ensures.given;
           first = c.append_after_losses-2.ensures.first;
           backup = refl;
-          shape = did.moved.shape;
-          size = did.moved.size;
+          shape = did.keeps.moved.shape;
+          size = did.keeps.moved.size;
           list = list-same given scope a.epoch.first refl
-              (scope-same given (Some a.backup) refl c.append_after_losses-2.ensures.uuid c.append_after_losses-2.ensures.given) c.append_after_losses-2.ensures.first did.grows (λ t. (was.kept.recorded t).begun);
+              (scope-same given (Some a.backup) refl c.append_after_losses-2.ensures.uuid c.append_after_losses-2.ensures.given) c.append_after_losses-2.ensures.first did.keeps.bank.grows (λ t. (was.kept.recorded t).begun);
         };
-        final = did.moved.reshape.final;
-        backward = did.moved.reshape.backward;
+        final = did.keeps.moved.reshape.final;
+        backward = did.keeps.moved.reshape.backward;
         ahead = refl;
         limit = refl;
       };
@@ -181,7 +181,7 @@ pub returns-clause-others : goal.returns-clause-others
 returns-clause-others g c = rw (← c.self.view_is) c.settle-settled.ensures.others
 
 pub returns-clause-failed : goal.returns-clause-failed
-returns-clause-failed g c = rw (← c.self.view_is) c.settle-settled.ensures.failed.roles
+returns-clause-failed g c = rw (← c.self.view_is) c.settle-settled.ensures.keeps.failed.roles
 
 pub returns-clause-flushed : goal.returns-clause-flushed
 returns-clause-flushed g c = rw (← c.self.view_is) c.settle-settled.ensures.flushed
@@ -190,7 +190,7 @@ pub returns-in-Some-refusal-clause-others : goal.returns-in-Some-refusal-clause-
 returns-in-Some-refusal-clause-others g c = rw (← c.self.view_is) c.settle-settled.ensures.others
 
 pub returns-in-Some-refusal-clause-failed : goal.returns-in-Some-refusal-clause-failed
-returns-in-Some-refusal-clause-failed g c = rw (← c.self.view_is) c.settle-settled.ensures.failed.roles
+returns-in-Some-refusal-clause-failed g c = rw (← c.self.view_is) c.settle-settled.ensures.keeps.failed.roles
 
 pub invariant_of-self-in-Some : goal.invariant_of-self-in-Some
 invariant_of-self-in-Some g c =
@@ -255,16 +255,16 @@ returns-in-Some-refusal-clause-called g c =
     let roles = c.newly_unassigned-roles.result in
     let spares = c.settle-settled.result.spares in
     let end = c.ops-end-2.result in
-    let since = lost-since given a.members m c.len-count.result c.unassigned_roles-before.result roles spares before after was.kept.members_are.placed did.moved did.failed
+    let since = lost-since given a.members m c.len-count.result c.unassigned_roles-before.result roles spares before after was.kept.members_are.placed did.keeps.moved did.keeps.failed
     (c.len-count.ensures ∙ was.kept.members_are.backed.roles) c.unassigned_roles-before.ensures c.newly_unassigned-roles.ensures in
     rw (← c.self.view_is) (record {
-      grows = did.grows;
+      grows = did.keeps.bank.grows;
       ended = ended-behind (g.B.Bank.tape c.settle-settled.new.bank) c.append_after_losses.new.epoch.first c.make_room.new.self.items c.args.who end (losses_of roles spares) (Refused c.in-Some-refusal.refusal) c.append_after_losses.ensures.items c.ops-end-2.ensures.count;
-      held = did.moved.held;
-      spares = did.moved.fewer;
+      held = did.keeps.moved.held;
+      spares = did.keeps.moved.fewer;
       losses = losses-behind a.members m before after a.epoch.entries.items c.make_room.new.self.items c.append_after_losses.new.epoch.entries.items c.args.who end roles spares
           (Refused c.in-Some-refusal.refusal) since tt c.make_room.ensures.items c.append_after_losses.ensures.items;
-      never_falls = did.counts;
+      never_falls = did.keeps.bank.counts;
       work = refl;
       same = record {
         array = record {
@@ -272,13 +272,13 @@ returns-in-Some-refusal-clause-called g c =
           given = c.append_after_losses.ensures.given;
           first = c.append_after_losses.ensures.first;
           backup = refl;
-          shape = did.moved.shape;
-          size = did.moved.size;
+          shape = did.keeps.moved.shape;
+          size = did.keeps.moved.size;
           list = list-same given scope a.epoch.first refl
-              (scope-same given (Some a.backup) refl c.append_after_losses.ensures.uuid c.append_after_losses.ensures.given) c.append_after_losses.ensures.first did.grows (λ t. (was.kept.recorded t).begun);
+              (scope-same given (Some a.backup) refl c.append_after_losses.ensures.uuid c.append_after_losses.ensures.given) c.append_after_losses.ensures.first did.keeps.bank.grows (λ t. (was.kept.recorded t).begun);
         };
-        final = did.moved.reshape.final;
-        backward = did.moved.reshape.backward;
+        final = did.keeps.moved.reshape.final;
+        backward = did.keeps.moved.reshape.backward;
         ahead = refl;
         limit = refl;
       };
@@ -343,21 +343,19 @@ returns-in-Some-clause-course g c = ap (λ p. p.course) c.self.view_is
 pub returns-in-Some-clause-given : goal.returns-in-Some-clause-given
 returns-in-Some-clause-given g c = ap (λ p. g.B.Bank.given p.parts.bank) c.self.view_is
 
-pub flush_and_mark-settled-requires-clause-slots : goal.flush_and_mark-settled-requires-clause-slots
-flush_and_mark-settled-requires-clause-slots g c = c.self.invariant.kept.slots
-
-pub flush_and_mark-settled-requires-clause-placed : goal.flush_and_mark-settled-requires-clause-placed
-flush_and_mark-settled-requires-clause-placed g c = c.self.invariant.kept.members_are.placed
-
-pub flush_and_mark-settled-requires-clause-unlost : goal.flush_and_mark-settled-requires-clause-unlost
-flush_and_mark-settled-requires-clause-unlost g c = c.self.invariant.kept.members_are.unlost
-
-pub flush_and_mark-settled-requires-clause-free : goal.flush_and_mark-settled-requires-clause-free
-flush_and_mark-settled-requires-clause-free g c = c.self.invariant.kept.members_are.free
+pub flush_and_mark-settled-requires : goal.flush_and_mark-settled-requires
+flush_and_mark-settled-requires g c = record {
+  stands = record {
+    slots = c.self.invariant.kept.slots;
+    placed = c.self.invariant.kept.members_are.placed;
+    unlost = c.self.invariant.kept.members_are.unlost;
+    free = c.self.invariant.kept.members_are.free;
+  };
+}
 
 pub newly_unassigned-roles-requires-clause-known : goal.newly_unassigned-roles-requires-clause-known
 newly_unassigned-roles-requires-clause-known g c =
-    roles-moved (g.B.Bank.given c.self.inside.bank) c.self.inside.members c.settle-settled.new.members c.settle-settled.ensures.moved c.len-count.result c.len-count.ensures c.self.invariant.kept.members_are.placed.roles
+    roles-moved (g.B.Bank.given c.self.inside.bank) c.self.inside.members c.settle-settled.new.members c.settle-settled.ensures.keeps.moved c.len-count.result c.len-count.ensures c.self.invariant.kept.members_are.placed.roles
 
 pub append_after_losses-requires-clause-room : goal.append_after_losses-requires-clause-room
 append_after_losses-requires-clause-room g c = room-made _ c.in-Ok.ensures.ok
@@ -381,7 +379,7 @@ pub returns-in-Some-refusal-clause-course : goal.returns-in-Some-refusal-clause-
 returns-in-Some-refusal-clause-course g c = ap (λ p. p.course) c.self.view_is
 
 pub returns-in-Some-refusal-clause-given : goal.returns-in-Some-refusal-clause-given
-returns-in-Some-refusal-clause-given g c = c.settle-settled.ensures.given ∙ ap (λ p. g.B.Bank.given p.parts.bank) c.self.view_is
+returns-in-Some-refusal-clause-given g c = c.settle-settled.ensures.keeps.bank.same ∙ ap (λ p. g.B.Bank.given p.parts.bank) c.self.view_is
 
 pub append_after_losses-requires-2-clause-room : goal.append_after_losses-requires-2-clause-room
 append_after_losses-requires-2-clause-room g c = room-made _ c.in-Ok.ensures.ok
@@ -403,4 +401,4 @@ pub returns-clause-course : goal.returns-clause-course
 returns-clause-course g c = ap (λ p. p.course) c.self.view_is
 
 pub returns-clause-given : goal.returns-clause-given
-returns-clause-given g c = c.settle-settled.ensures.given ∙ ap (λ p. g.B.Bank.given p.parts.bank) c.self.view_is
+returns-clause-given g c = c.settle-settled.ensures.keeps.bank.same ∙ ap (λ p. g.B.Bank.given p.parts.bank) c.self.view_is
