@@ -3,6 +3,6 @@
 
 pub use array_call_specs::{
     BusyKind, Entries, Epoch, Event, Fault, LostCause, NoMemory, Refusal, Role, RoleList, Sectors,
-    Shape, SlotList, Span, Status, Who, check_number, append_entry, append_after_losses, append_failure,
-    append_lost,
+    Shape, SlotList, Span, Status, Who, append_after_losses, append_entry, append_failure,
+    append_lost, check_number,
 };

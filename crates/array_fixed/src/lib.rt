@@ -5,9 +5,10 @@ mod choosing;
 mod state;
 
 pub use array_fixed_laws::{
-    Filled, read_listed, fill, flush_and_record, give_role, has_unnamed, is_spare, is_unassigned, resync_rows,
-    synced_rows, record_missing, newly_unassigned, write_listed, recovering_slot, flush_and_mark, shape_in, too_many,
-    first_read_refusal, first_write_refusal, unassigned_roles, visible_of,
+    Filled, fill, first_read_refusal, first_write_refusal, flush_and_mark, flush_and_record,
+    give_role, has_unnamed, is_spare, is_unassigned, newly_unassigned, read_listed, record_missing,
+    recovering_slot, resync_rows, shape_in, synced_rows, too_many, unassigned_roles, visible_of,
+    write_listed,
 };
 pub use array_parts::{
     Entries, Epoch, Event, PhasesLeft, Pieces, StepKind, Work, is_missing, planned_left,
@@ -18,8 +19,8 @@ pub use array_state::refusing::{are_synced, first_resync_refusal};
 pub use array_state::room::zeros;
 pub use array_state::work::set_rebuilt;
 pub use array_state::{
-    Fault, Refusal, Role, Sectors, Shape, Who, add_member, bear, check_number, append_entry, append_after_losses,
-    append_failure, append_lost, free_number, look_at,
+    Fault, Refusal, Role, Sectors, Shape, Who, add_member, append_after_losses, append_entry,
+    append_failure, append_lost, bear, check_number, free_number, look_at,
 };
 pub use choosing::first_spare;
 pub use sb_election::{Bank, Members, contains, with, without};

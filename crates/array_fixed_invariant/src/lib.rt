@@ -2,11 +2,11 @@
 #![tactic(auto)]
 
 pub use array_call_laws::{
-    Fault, NoMemory, Refusal, Role, Sectors, Shape, Span, Who, append_entry, append_after_losses, append_failure,
-    append_lost,
+    Fault, NoMemory, Refusal, Role, Sectors, Shape, Span, Who, append_after_losses, append_entry,
+    append_failure, append_lost,
 };
 pub use array_reshaping_invariant::{
-    Filled, read_listed, fill, flush_and_record, give_role, has_unnamed, is_unassigned, resync_rows, synced_rows,
-    record_missing, newly_unassigned, write_listed, recovering_slot, flush_and_mark, shape_in, too_many, first_read_refusal,
-    first_write_refusal, unassigned_roles,
+    Filled, fill, first_read_refusal, first_write_refusal, flush_and_mark, flush_and_record,
+    give_role, has_unnamed, is_unassigned, newly_unassigned, read_listed, record_missing,
+    recovering_slot, resync_rows, shape_in, synced_rows, too_many, unassigned_roles, write_listed,
 };

@@ -18,9 +18,9 @@ ghost use Rattle.array_fixed.specs.array_call_specs_Calls.{IsUnaddable, IsAddedF
 ghost use Rattle.array_fixed.specs.array_fixed_laws_Steps.{IsStepped};
 
 use array_fixed::{
-    Bank, Event, Fault, Refusal, Still, Who, add_member, bear, check_number, contains, append_entry,
-    append_after_losses, free_number, has_unnamed, look_at, newly_unassigned, shape_in, spare_for, unaddable,
-    unassigned_roles, with, without,
+    Bank, Event, Fault, Refusal, Still, Who, add_member, append_after_losses, append_entry, bear,
+    check_number, contains, free_number, has_unnamed, look_at, newly_unassigned, shape_in,
+    spare_for, unaddable, unassigned_roles, with, without,
 };
 
 // Whether the slot was lost without a failure of its own, and the superblocks still name a role that no slot holds.

@@ -21,8 +21,9 @@ ghost use Rattle.array_fixed.specs.array_specs_Calls.{moving_world, IsCalled};
 ghost use Rattle.array_fixed.specs.array_specs_Parts.{visible_size, visible_in};
 
 use array_fixed::{
-    Bank, Event, Fault, Members, Refusal, Sectors, Still, Who, check_number, append_entry, append_after_losses,
-    read_listed, synced_rows, newly_unassigned, shape_in, first_read_refusal, unassigned_roles, visible, visible_of, zeros,
+    Bank, Event, Fault, Members, Refusal, Sectors, Still, Who, append_after_losses, append_entry,
+    check_number, first_read_refusal, newly_unassigned, read_listed, shape_in, synced_rows,
+    unassigned_roles, visible, visible_of, zeros,
 };
 
 // Why so many sectors from one on aren't read, before any is: the first of `PastEnd`, `TooManyMissing` and `NotResynced`.

@@ -18,9 +18,9 @@ ghost use Rattle.array_fixed.specs.array_specs_Calls.{IsCalled};
 ghost use Rattle.array_fixed.specs.array_specs_Parts.{visible_size, visible_in};
 
 use array_fixed::{
-    Bank, Event, Fault, Members, Refusal, Sectors, Still, Who, are_synced, check_number, append_entry,
-    append_after_losses, append_failure, newly_unassigned, write_listed, shape_in, first_write_refusal, unassigned_roles, visible,
-    visible_of,
+    Bank, Event, Fault, Members, Refusal, Sectors, Still, Who, append_after_losses, append_entry,
+    append_failure, are_synced, check_number, first_write_refusal, newly_unassigned, shape_in,
+    unassigned_roles, visible, visible_of, write_listed,
 };
 
 // Why so many sectors from one on aren't written, before any row is read: the first of `PastEnd`, `TooManyMissing` and `NotResynced`.

@@ -2,8 +2,8 @@
 #![tactic(auto)]
 
 pub use array_fixed_invariant::{
-    Filled, read_listed, fill, flush_and_record, give_role, has_unnamed, is_unassigned, resync_rows, synced_rows,
-    record_missing, newly_unassigned, write_listed, recovering_slot, flush_and_mark, shape_in, too_many, first_read_refusal,
-    first_write_refusal, unassigned_roles,
+    Filled, fill, first_read_refusal, first_write_refusal, flush_and_mark, flush_and_record,
+    give_role, has_unnamed, is_unassigned, newly_unassigned, read_listed, record_missing,
+    recovering_slot, resync_rows, shape_in, synced_rows, too_many, unassigned_roles, write_listed,
 };
 pub use array_specs::{is_spare, visible_of};

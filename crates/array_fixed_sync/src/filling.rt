@@ -25,9 +25,9 @@ ghost use Rattle.array_fixed.specs.array_fixed_laws_Steps.{IsStepped, IsClosable
 use crate::naming::{fill_and_name, give_and_name, record_and_name};
 use crate::refusing::refuse_step;
 use array_fixed::{
-    Bank, Event, Fault, StepKind, Still, Who, all_left, check_going, append_entry, append_after_losses,
-    append_lost, is_unassigned, newly_unassigned, recovering_slot, set_rebuilt, shape_in, too_many,
-    unassigned_roles, with, without,
+    Bank, Event, Fault, StepKind, Still, Who, all_left, append_after_losses, append_entry,
+    append_lost, check_going, is_unassigned, newly_unassigned, recovering_slot, set_rebuilt,
+    shape_in, too_many, unassigned_roles, with, without,
 };
 
 /// The first step of a rebuild: gives a role that no slot holds to a spare, which recovers it from the first row on.

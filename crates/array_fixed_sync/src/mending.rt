@@ -21,8 +21,9 @@ ghost use Rattle.array_fixed.specs.array_fixed_laws_Steps.{IsStepped, IsClosable
 
 use crate::refusing::refuse_step;
 use array_fixed::{
-    Bank, Event, Fault, StepKind, Still, Who, all_left, check_going, append_after_losses, resync_rows,
-    newly_unassigned, flush_and_mark, shape_in, too_many, first_resync_refusal, unassigned_roles,
+    Bank, Event, Fault, StepKind, Still, Who, all_left, append_after_losses, check_going,
+    first_resync_refusal, flush_and_mark, newly_unassigned, resync_rows, shape_in, too_many,
+    unassigned_roles,
 };
 
 /// A step of the pending resync: makes the parity of its next stripe fit the data. Every role that has data must be there.

@@ -10,7 +10,7 @@ ghost use Rattle.array_fixed.specs.history_invariant_Recorded.{IsCallGoing};
 ghost use Rattle.array_fixed.specs.array_specs_Parts.{still_left};
 ghost use Rattle.array_fixed.specs.array_fixed_laws_Steps.{IsStepped};
 
-use array_fixed::{Bank, Event, Refusal, Still, Who, check_going, append_entry};
+use array_fixed::{Bank, Event, Refusal, Still, Who, append_entry, check_going};
 
 // Enters that a step is refused, before anything was done.
 pub(crate) fn refuse_step<B: Bank>(still: &mut Still<B>, who: Who, refusal: Refusal)

@@ -11,7 +11,7 @@ pub use array_reply_specs::{
     Bank, Fault, NoMemory, Phase, Refusal, Shape, Who, final_in, shape_in,
 };
 pub use array_transition::{
-    Course, Due, Moving, Opened, Room, Still, answer, begin_reshape, due_step, append_absent,
+    Course, Due, Moving, Opened, Room, Still, answer, append_absent, begin_reshape, due_step,
     finish_reshape, first_recovering, found_numbers, list_sectors, make_room, room_for, step,
     steps_left, still_step, zeros,
 };

@@ -15,7 +15,7 @@ ghost use Rattle.array_grow.specs.Planned.{asked_in, IsGrowJudged, IsGrowReply, 
 ghost use Rattle.array_grow.specs.Plans.{GoesTo};
 
 use crate::judging::judge;
-use array_reply_specs::{Bank, Fault, Refusal, Who, Wish, check_number, append_entry};
+use array_reply_specs::{Bank, Fault, Refusal, Who, Wish, append_entry, check_number};
 use array_transition::{Event, Still, all_left, plan_of, zeros};
 
 /// What a plan answers: how many steps are left, and a buffer for each of its windows.

@@ -16,7 +16,9 @@ ghost use Rattle.array_reply_specs.specs.array_specs_Visible.{IsLimitedAs};
 ghost use Rattle.array_grow.specs.Planned.{asked_in, IsJudged, IsGrowJudged, IsReplyTo, IsReplied, IsRefusedInReshape, IsGrowAnswered, IsAsBefore};
 
 use crate::planning::PlannedGrow;
-use array_reply_specs::{Bank, BusyKind, Fault, NoMemory, Refusal, Who, Wish, check_number, append_entry};
+use array_reply_specs::{
+    Bank, BusyKind, Fault, NoMemory, Refusal, Who, Wish, append_entry, check_number,
+};
 use array_transition::{Event, Moving};
 
 // Enters that a request is refused for the reshape. Want of memory changes nothing.

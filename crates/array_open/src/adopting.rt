@@ -16,8 +16,8 @@ ghost use Rattle.array_open.specs.Adopted.{moving_work, IsMovingAdopted, IsNotAd
 use array_create_assemble::{Bank, Epoch, Fault, Members, Refusal, Work, is_clean, unit};
 use array_reshaping_open_laws::{PhasesLeft, Window, find_window, lose_recovering};
 use array_steps::{
-    Course, Moving, Pieces, Room, append_absent, final_in, found_numbers, list_sectors,
-    room_for, shape_in, zeros,
+    Course, Moving, Pieces, Room, append_absent, final_in, found_numbers, list_sectors, room_for,
+    shape_in, zeros,
 };
 use std::alloc::Global;
 

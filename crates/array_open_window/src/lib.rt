@@ -13,9 +13,11 @@ pub use array_reshaping_state::reshape::{
     stripes_to_zero, window_stripes,
 };
 pub use array_reshaping_state::stepping::{Due, due_step};
-pub use array_reshaping_state::windows::{backed_up_span, meets, open_span, part_in, uncertain_span};
+pub use array_reshaping_state::windows::{
+    backed_up_span, meets, open_span, part_in, uncertain_span,
+};
 pub use array_reshaping_state::{
-    Course, resync_stripes, resyncs_at, next_resync, relied_sector, resync_left,
+    Course, next_resync, relied_sector, resync_left, resync_stripes, resyncs_at,
 };
 pub use recovering::lose_recovering;
 pub use windows::find_window;

@@ -9,11 +9,11 @@ pub use array_parts::{
     reshape_left,
 };
 pub use array_reshaping_laws::{
-    Course, Due, Finished, begin, clear_window, copy, due_step, enter_next, read_around_window, final_in,
-    finish, finish_window, has_unnamed, backed_up_span, is_spare, is_window_critical, list_length,
-    list_sectors, meets, newly_unassigned, next_window_of, open_span, write_list, record, relied_sector,
-    stripe_to_copy, stripe_to_zero, too_many, first_read_refusal_from, uncertain_span, first_write_refusal_from,
-    unassigned_roles, visible, zero,
+    Course, Due, Finished, backed_up_span, begin, clear_window, copy, due_step, enter_next,
+    final_in, finish, finish_window, first_read_refusal_from, first_write_refusal_from,
+    has_unnamed, is_spare, is_window_critical, list_length, list_sectors, meets, newly_unassigned,
+    next_window_of, open_span, read_around_window, record, relied_sector, stripe_to_copy,
+    stripe_to_zero, too_many, unassigned_roles, uncertain_span, visible, write_list, zero,
 };
 pub use array_state::absent::append_absent;
 pub use array_state::adding::{spare_for, unaddable};

@@ -15,9 +15,9 @@ ghost use Rattle.array_reshaping_steps.specs.array_call_specs_Calls.{IsUnaddable
 ghost use Rattle.array_reshaping_steps.specs.array_specs_Adding.{IsAddCalled};
 
 use array_reshaping_steps::{
-    Bank, Event, Fault, Moving, Refusal, Who, add_member, bear, check_number, contains, append_entry,
-    append_after_losses, free_number, has_unnamed, look_at, newly_unassigned, spare_for, unaddable,
-    unassigned_roles, with, without,
+    Bank, Event, Fault, Moving, Refusal, Who, add_member, append_after_losses, append_entry, bear,
+    check_number, contains, free_number, has_unnamed, look_at, newly_unassigned, spare_for,
+    unaddable, unassigned_roles, with, without,
 };
 
 // Whether the slot was lost without a failure of its own, and the superblocks still name a role that no slot holds.

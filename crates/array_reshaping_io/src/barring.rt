@@ -18,7 +18,7 @@ ghost use Rattle.array_reshaping_steps.specs.array_reshaping_laws_Writing.{Touch
 
 use crate::writing::unwritten_here;
 use array_reshaping_steps::{
-    Bank, Event, Fault, Moving, Who, check_going, clear, append_entry, open_span, relied_sector,
+    Bank, Event, Fault, Moving, Who, append_entry, check_going, clear, open_span, relied_sector,
 };
 
 // Refuses a write of so many sectors, of which some lie in an unsure window: for what speaks against a write beside it, or for the backup.

@@ -21,9 +21,9 @@ ghost use Rattle.array_reshaping_steps.specs.array_specs_Parts.{visible_in};
 ghost use Rattle.array_reshaping_steps.specs.array_reshaping_laws_Refusing.{first_refusal, IsFirstFor};
 
 use array_reshaping_steps::{
-    Bank, Event, Fault, Moving, Sectors, Span, Who, check_number, append_entry, append_after_losses,
-    read_around_window, backed_up_span, newly_unassigned, relied_sector, first_read_refusal_from, unassigned_roles, visible,
-    zeros,
+    Bank, Event, Fault, Moving, Sectors, Span, Who, append_after_losses, append_entry,
+    backed_up_span, check_number, first_read_refusal_from, newly_unassigned, read_around_window,
+    relied_sector, unassigned_roles, visible, zeros,
 };
 
 // How many bytes the sectors of this window have; none where there is none.
@@ -142,7 +142,14 @@ pub fn read<B: Bank>(
     let hidden = backed_up_span(&moving.course);
     let sectors = visible(&moving.members, moving.limit);
     let relied = relied_sector(&moving.members, moving.work.resync);
-    if let Some(refusal) = first_read_refusal_from(&moving.members, hidden, sectors, relied, at, asked) {
+    if let Some(refusal) = first_read_refusal_from(
+        &moving.members,
+        hidden,
+        sectors,
+        relied,
+        at,
+        asked,
+    ) {
         let end = moving.bank.ops();
         append_entry(&mut moving.epoch, who, end, Event::Refused { refusal });
         return Err(Fault::Refused(refusal));

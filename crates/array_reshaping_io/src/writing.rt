@@ -29,9 +29,10 @@ ghost use Rattle.array_reshaping_steps.specs.array_reshaping_laws_Writing.{IsWin
 
 use crate::barring::bar_write;
 use array_reshaping_steps::{
-    Bank, Event, Fault, Members, Moving, Refusal, Sectors, Span, Who, check_going, append_entry,
-    append_after_losses, append_failure, finish_open, meets, newly_unassigned, open_span, write_list,
-    relied_sector, uncertain_span, first_write_refusal_from, unassigned_roles, visible,
+    Bank, Event, Fault, Members, Moving, Refusal, Sectors, Span, Who, append_after_losses,
+    append_entry, append_failure, check_going, finish_open, first_write_refusal_from, meets,
+    newly_unassigned, open_span, relied_sector, unassigned_roles, uncertain_span, visible,
+    write_list,
 };
 
 // Why so many sectors from one on aren't written, before any row is read, where those below the limit are visible and parity is to be relied

@@ -2,7 +2,8 @@
 #![tactic(auto)]
 
 pub use array_reshaping_invariant::{
-    Course, Finished, begin, copy, read_around_window, final_in, finish, finish_window, has_unnamed,
-    is_spare, list_length, resync_list, record_missing, newly_unassigned, write_list, record, relied_sector,
-    resync_left, flush_and_mark, shape_in, too_many, first_resync_refusal, unassigned_roles, zero,
+    Course, Finished, begin, copy, final_in, finish, finish_window, first_resync_refusal,
+    flush_and_mark, has_unnamed, is_spare, list_length, newly_unassigned, read_around_window,
+    record, record_missing, relied_sector, resync_left, resync_list, shape_in, too_many,
+    unassigned_roles, write_list, zero,
 };

@@ -14,6 +14,6 @@ pub use array_call_specs::{Role, Span};
 pub use reshape_progress::{
     Bank, BankFault, Course, Members, Window, find_section, is_spare, lose_slots, with,
 };
-pub use stripe_region_resync::counting::{resyncs_at, resync_left};
-pub use stripe_region_resync::stripes::{resync_stripes, next_resync, relied_sector};
+pub use stripe_region_resync::counting::{resync_left, resyncs_at};
+pub use stripe_region_resync::stripes::{next_resync, relied_sector, resync_stripes};
 pub use stripe_region_resync::{final_in, shape_in};

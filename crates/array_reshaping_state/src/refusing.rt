@@ -14,7 +14,9 @@ ghost use Rattle.array_reshaping_state.specs.First.{list_refusal, IsUnreadAround
 use crate::windows::part_in;
 use array_call_specs::{Refusal, Span};
 use reshape_progress::Members;
-use stripe_region_resync::{runs_of, stretch_at, too_many_of, first_list_refusal, first_runs_refusal};
+use stripe_region_resync::{
+    first_list_refusal, first_runs_refusal, runs_of, stretch_at, too_many_of,
+};
 
 // The refusal of the first of so many sectors from this one on of whose shape more roles are missing than it tolerates.
 fn lacking_from(members: &Members, first: u64, count: u64) -> Option<Refusal>

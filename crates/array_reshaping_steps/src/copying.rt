@@ -25,7 +25,7 @@ ghost use Rattle.array_reshaping.specs.array_specs_Parts.{left_in};
 ghost use Rattle.array_reshaping.specs.array_specs_Calls.{IsCalled, IsStepTaken, IsCopyDue};
 ghost use Rattle.array_reshaping.specs.sb_safe_updates_Frame.{Stands, GoesOn};
 
-use array_fixed_invariant::{Fault, Refusal, Span, Who, append_entry, append_after_losses};
+use array_fixed_invariant::{Fault, Refusal, Span, Who, append_after_losses, append_entry};
 use array_reshaping::{
     Bank, Event, Members, Moving, StepKind, Window, all_left, check_going, copy, final_in,
     newly_unassigned, stripe_to_copy, too_many, unassigned_roles,

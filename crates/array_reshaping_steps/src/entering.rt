@@ -14,7 +14,7 @@ ghost use Rattle.array_reshaping.specs.array_specs_Parts.{left_in};
 ghost use Rattle.array_reshaping.specs.array_specs_Calls.{IsCalled, IsStepTaken, IsEnterDue, IsEnterCaused, IsNextOpen, IsNextUnsure};
 
 use crate::clearing::clear;
-use array_fixed_invariant::{Fault, Who, append_entry, append_after_losses};
+use array_fixed_invariant::{Fault, Who, append_after_losses, append_entry};
 use array_reshaping::{
     Bank, Course, Event, Members, Moving, StepKind, Window, all_left, check_going, enter_next,
     is_window_critical, list_sectors, next_window_of, too_many,

@@ -30,7 +30,7 @@ ghost use Rattle.array_reshaping.specs.array_specs_Calls.{moving_world, IsCalled
 ghost use Rattle.array_reshaping.specs.array_reshaping_laws_Writing.{IsWindowOpen, steps_in};
 ghost use Rattle.array_reshaping.specs.sb_safe_updates_Frame.{Stands, GoesOn};
 
-use array_fixed_invariant::{Fault, Refusal, Span, Who, append_entry, append_after_losses};
+use array_fixed_invariant::{Fault, Refusal, Span, Who, append_after_losses, append_entry};
 use array_reshaping::{
     Bank, Course, Event, Members, Moving, StepKind, Window, all_left, check_going, final_in,
     finish_window, newly_unassigned, too_many, unassigned_roles,

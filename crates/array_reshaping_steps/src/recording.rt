@@ -10,7 +10,7 @@ ghost use Rattle.array_reshaping.specs.reshape_progress_Laws.{closed};
 ghost use Rattle.array_reshaping.specs.array_specs_Parts.{left_in};
 ghost use Rattle.array_reshaping.specs.array_specs_Calls.{IsCalled, IsStepTaken, IsRecordDue};
 
-use array_fixed_invariant::{Fault, Who, append_entry, append_after_losses};
+use array_fixed_invariant::{Fault, Who, append_after_losses, append_entry};
 use array_reshaping::{
     Bank, Course, Event, Moving, StepKind, Window, all_left, check_going, newly_unassigned, record,
     too_many, unassigned_roles,

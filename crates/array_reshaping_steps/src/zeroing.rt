@@ -10,10 +10,10 @@ ghost use Rattle.array_reshaping.specs.reshape_progress_Laws.{closed};
 ghost use Rattle.array_reshaping.specs.array_specs_Parts.{left_in};
 ghost use Rattle.array_reshaping.specs.array_specs_Calls.{IsCalled, IsStepTaken, IsZeroDue};
 
-use array_fixed_invariant::{Fault, Who, append_entry, append_after_losses};
+use array_fixed_invariant::{Fault, Who, append_after_losses, append_entry};
 use array_reshaping::{
-    Bank, Event, Moving, StepKind, all_left, check_going, final_in, newly_unassigned, stripe_to_zero,
-    too_many, unassigned_roles, zero,
+    Bank, Event, Moving, StepKind, all_left, check_going, final_in, newly_unassigned,
+    stripe_to_zero, too_many, unassigned_roles, zero,
 };
 
 /// A step of the reshape, which has gone through the list, where no resync is pending: the next stripe behind it is zeroed. Refusals: `TooManyMissing`. It

@@ -1,7 +1,7 @@
 //! What contracts say of the calls of an array, whether a reshape is active in it or not. Definitions alone.
 #![tactic(auto)]
 
-pub use array_call_laws::{check_number, append_entry};
+pub use array_call_laws::{append_entry, check_number};
 pub use array_reshaping_state::asking::{visible, visible_of};
 pub use array_reshaping_state::refusing::{first_read_refusal_from, first_write_refusal_from};
 pub use array_reshaping_state::reshape::{

@@ -10,8 +10,8 @@ pub mod room;
 pub mod work;
 
 pub use array_call_laws::{
-    BusyKind, Fault, NoMemory, Sectors, Status, Who, check_number, append_entry, append_after_losses,
-    append_failure, append_lost,
+    BusyKind, Fault, NoMemory, Sectors, Status, Who, append_after_losses, append_entry,
+    append_failure, append_lost, check_number,
 };
 pub use sb_add_spare::adding::{add_member, look_at};
 pub use sb_add_spare::device::{bear, free_number};

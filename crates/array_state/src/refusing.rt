@@ -13,7 +13,7 @@ ghost use Rattle.sb_add_spare.specs.sb_safe_updates_First.{read_refusal, write_r
 ghost use Rattle.array_call_laws.specs.array_call_specs_Calls.{IsRefusalOf, IsUnmendable};
 
 use crate::asking::visible;
-use sb_add_spare::{list_length, shape_in, too_many, first_read_refusal, first_write_refusal};
+use sb_add_spare::{first_read_refusal, first_write_refusal, list_length, shape_in, too_many};
 use stripe_io::mending::synced_rows;
 use stripe_io::{Members, Refusal, Shape};
 
@@ -43,7 +43,12 @@ pub fn are_synced(members: &Members, resync: Option<u64>, shape: &Shape, to: u64
 }
 
 /// Why so many sectors from one on aren't read, before any is: the first of `PastEnd`, `TooManyMissing` and `NotResynced`.
-pub fn first_read_refusal_from(members: &Members, resync: Option<u64>, at: u64, count: u64) -> Option<Refusal>
+pub fn first_read_refusal_from(
+    members: &Members,
+    resync: Option<u64>,
+    at: u64,
+    count: u64,
+) -> Option<Refusal>
     requires shape { IsTrue (is_valid_shape (shape_of members.now.newest)) }
     requires multiple { IsTrue (is_multiple members.now.newest.size (shape_of members.now.newest).chunk) }
     requires roles { (shape_of members.now.newest).disks ≤ length members.now.roles }

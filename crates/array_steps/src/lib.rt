@@ -7,7 +7,7 @@ mod turns;
 
 pub use array::{
     Course, Moving, Opened, Pieces, PlannedGrow, Room, Running, State, Still, add_moving,
-    add_still, check_moving, check_still, append_absent, final_in, found_numbers, list_sectors,
+    add_still, append_absent, check_moving, check_still, final_in, found_numbers, list_sectors,
     plan_grow, read_moving, read_still, refuse_grow, refuse_limit, room_for, shape_in,
     write_moving, write_still, zeros,
 };

@@ -31,7 +31,7 @@ use crate::refusing::unbegun;
 use array_fixed_sync::Still;
 use array_reshaping_steps::{
     Bank, Course, Entries, Epoch, Event, Members, Moving, PhasesLeft, Pieces, Refusal, Shape,
-    StepKind, Who, Window, begin, contains, append_entry, append_lost, is_backward, list_sectors,
+    StepKind, Who, Window, append_entry, append_lost, begin, contains, is_backward, list_sectors,
     planned_left, reshape_left, unassigned_roles,
 };
 

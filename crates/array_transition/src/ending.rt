@@ -27,8 +27,9 @@ use crate::beginning::check_going;
 use array_fixed_sync::Still;
 use array_reshaping_steps::{
     Bank, Epoch, Event, Finished, Members, Moving, PhasesLeft, Refusal, Role, StepKind, Who, Work,
-    append_entry, append_after_losses, append_lost, final_in, finish, list_length, list_sectors, newly_unassigned,
-    planned_left, shape_in, steps_left, too_many, unassigned_roles, with, without,
+    append_after_losses, append_entry, append_lost, final_in, finish, list_length, list_sectors,
+    newly_unassigned, planned_left, shape_in, steps_left, too_many, unassigned_roles, with,
+    without,
 };
 
 // The slots that hold a role below this one.

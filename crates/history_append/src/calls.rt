@@ -47,7 +47,14 @@ pub fn append_entry(epoch: &mut Epoch, who: Who, end: u64, event: Event)
 }
 
 /// An event behind the losses of these roles and spares.
-pub fn append_after_losses(epoch: &mut Epoch, who: Who, end: u64, roles: u32, spares: u32, event: Event)
+pub fn append_after_losses(
+    epoch: &mut Epoch,
+    who: Who,
+    end: u64,
+    roles: u32,
+    spares: u32,
+    event: Event,
+)
     requires room { 49 ≤ epoch.old.entries.room }
     requires number { who.number ≤ length epoch.old.entries.items }
     ensures items { epoch.new.entries.items ≡ epoch.old.entries.items ++ entries_of who end (losses_of roles spares ++ event ∷ []) }

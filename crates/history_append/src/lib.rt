@@ -4,6 +4,6 @@
 pub mod calls;
 pub mod losses;
 
-pub use calls::{check_number, append_entry};
+pub use calls::{append_entry, check_number};
 pub use history_laws::{Entries, Epoch, Event, LostCause, Request};
 pub use losses::append_losses;

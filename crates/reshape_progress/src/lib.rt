@@ -12,7 +12,7 @@ pub use reshape_request::{
     is_critical, list_end, lose_slots, reshape_left, stripe_sectors, with, write_section,
 };
 pub use reshape_window_steps::{
-    Finished, begin, copy, finish, flush_and_record, give_role, has_unnamed, is_spare, is_unassigned,
-    list_length, record_missing, newly_unassigned, record, flush_and_mark, too_many, first_read_refusal, first_write_refusal,
-    unassigned_roles, zero,
+    Finished, begin, copy, finish, first_read_refusal, first_write_refusal, flush_and_mark,
+    flush_and_record, give_role, has_unnamed, is_spare, is_unassigned, list_length,
+    newly_unassigned, record, record_missing, too_many, unassigned_roles, zero,
 };

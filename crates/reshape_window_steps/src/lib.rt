@@ -11,7 +11,8 @@ pub use copying::{Stepped, copy};
 pub use entering::{Entered, NotEntered, enter_window};
 pub use recording::record;
 pub use reshape_window_rows::{
-    Finished, begin, finish, flush_and_record, give_role, has_unnamed, is_spare, is_unassigned,
-    list_length, record_missing, newly_unassigned, flush_and_mark, too_many, first_read_refusal, first_write_refusal, unassigned_roles,
+    Finished, begin, finish, first_read_refusal, first_write_refusal, flush_and_mark,
+    flush_and_record, give_role, has_unnamed, is_spare, is_unassigned, list_length,
+    newly_unassigned, record_missing, too_many, unassigned_roles,
 };
 pub use zeroing::zero;

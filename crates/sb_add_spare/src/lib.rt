@@ -5,6 +5,6 @@ pub mod adding;
 pub mod device;
 
 pub use device::device_uuid;
-pub use sb_safe_updates::refusing::{too_many, first_read_refusal, first_write_refusal};
+pub use sb_safe_updates::refusing::{first_read_refusal, first_write_refusal, too_many};
 pub use sb_safe_updates::roles::{is_spare, is_unassigned, list_length, shape_in};
 pub use sb_safe_updates::{Work, flush_slots, is_clean, with};

@@ -15,8 +15,8 @@ pub use diagnosis::Diagnosis;
 pub use grammar::{Meaning, diagnose_line, meaning_of_line, read_line};
 pub use history::{Entry, Epoch, Event, Request, Role, Sb, Shape, Status, entry_of, is_clean};
 pub use lines::{
-    CreateLine, Line, MOST_BYTES, MOST_LINES, MOST_SECTORS, Numbered, ScriptFault,
-    is_inside_after, read_script, read_script_with_blocks, without_last_newline,
+    CreateLine, Line, MOST_BYTES, MOST_LINES, MOST_SECTORS, Numbered, ScriptFault, is_inside_after,
+    read_script, read_script_with_blocks, without_last_newline,
 };
 pub use mistakes::{Mistake, Place, Value};
 pub use reply::{

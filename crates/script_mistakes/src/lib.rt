@@ -5,6 +5,6 @@ pub mod messages;
 pub mod nearest;
 pub mod scripts;
 
-pub use messages::{Message, push_marked, suggestion, message_of};
+pub use messages::{Message, message_of, push_marked, suggestion};
 pub use script::{Diagnosis, Mistake, diagnose_line};
 pub use scripts::{Reason, ScriptMistake, diagnose_script};

@@ -6,8 +6,10 @@ pub mod filling;
 pub mod mending;
 pub mod putting;
 
-pub use sb_safe_updates::naming::{record_missing, mark_dirty};
-pub use sb_safe_updates::refusing::{too_many, too_many_of, first_read_refusal, first_write_refusal};
+pub use sb_safe_updates::naming::{mark_dirty, record_missing};
+pub use sb_safe_updates::refusing::{
+    first_read_refusal, first_write_refusal, too_many, too_many_of,
+};
 pub use sb_safe_updates::roles::{final_in, list_length, shape_in};
 pub use sb_safe_updates::{
     Bank, Features, Members, Outcome, Refusal, Role, Sb, Shape, Side, Span, Unavailable,

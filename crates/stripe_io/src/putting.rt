@@ -21,8 +21,8 @@ ghost use Rattle.sb_safe_updates.specs.history_World.{World};
 ghost use Rattle.sb_safe_updates.specs.history_Sound.{OpensFit};
 ghost use Rattle.sb_safe_updates.specs.crash_views_Views.{Ledger, IsTailZero};
 
-use sb_safe_updates::naming::{record_missing, mark_dirty};
-use sb_safe_updates::refusing::{refused_by, too_many_of, first_write_refusal};
+use sb_safe_updates::naming::{mark_dirty, record_missing};
+use sb_safe_updates::refusing::{first_write_refusal, refused_by, too_many_of};
 use sb_safe_updates::{Bank, Members, Refusal, Shape, read_touched, write_touched};
 
 // The first row that isn't written, and why the rows weren't all written.

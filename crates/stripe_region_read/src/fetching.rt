@@ -24,7 +24,7 @@ ghost use Rattle.stripe_io.specs.sb_safe_updates_Frame.{Stands, Keeps};
 use crate::chunks::{read_chunk, run_at};
 use crate::reading::Fetched;
 use crate::stretches::{relied_rows, stretch_at};
-use stripe_io::{Bank, Members, Refusal, record_missing, too_many_of, first_read_refusal};
+use stripe_io::{Bank, Members, Refusal, first_read_refusal, record_missing, too_many_of};
 
 // The refusal where more roles are missing than a shape tolerates that places one of these sectors: the first of them.
 fn too_many_in(members: &Members, from: u64, to: u64) -> Option<Refusal>

@@ -18,7 +18,7 @@ ghost use Rattle.stripe_io.specs.crash_views_Views.{Ledger};
 ghost use Rattle.stripe_io.specs.sb_safe_updates_Frame.{Stands, Keeps};
 
 use stripe_io::fetching::read_parts;
-use stripe_io::{Bank, Members, Refusal, Shape, record_missing, first_read_refusal};
+use stripe_io::{Bank, Members, Refusal, Shape, first_read_refusal, record_missing};
 
 /// The spares that were lost in a read, and why it wasn't done.
 #[derive(Clone, Copy)]

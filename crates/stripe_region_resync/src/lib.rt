@@ -6,9 +6,9 @@ pub mod laws;
 pub mod mending;
 pub mod stripes;
 
-pub use stripe_region_write::runs::{runs_of, first_runs_refusal};
+pub use stripe_region_write::runs::{first_runs_refusal, runs_of};
 pub use stripe_region_write::writing::write_list;
 pub use stripe_region_write::{
-    Filled, read_listed, fill, final_in, resync_rows, synced_rows, write_listed, recovering_slot, shape_in, stretch_at,
-    too_many_of, first_list_refusal,
+    Filled, fill, final_in, first_list_refusal, read_listed, recovering_slot, resync_rows,
+    shape_in, stretch_at, synced_rows, too_many_of, write_listed,
 };

@@ -23,7 +23,7 @@ ghost use Rattle.stripe_region_write.specs.sb_safe_updates_Frame.{Stands, Keeps}
 
 use crate::stripes::stripe_after;
 use reshape_request::{Bank, Members, Refusal};
-use stripe_region_write::{Mended, resync_rows, too_many, first_write_refusal};
+use stripe_region_write::{Mended, first_write_refusal, resync_rows, too_many};
 
 // The refusal where more roles of a shape in force are missing than it tolerates, of the old one first, or else the one that was found.
 fn lacking_or(members: &Members, found: Option<Refusal>) -> Option<Refusal>

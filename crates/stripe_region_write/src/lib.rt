@@ -7,6 +7,6 @@ pub mod writing;
 pub use stripe_region_read::fetching::first_list_refusal;
 pub use stripe_region_read::stretches::{shape_for, stretch_at};
 pub use stripe_region_read::{
-    Filled, Mended, read_listed, fill, final_in, resync_rows, synced_rows, write_listed, recovering_slot, shape_in,
-    too_many, too_many_of, first_write_refusal,
+    Filled, Mended, fill, final_in, first_write_refusal, read_listed, recovering_slot, resync_rows,
+    shape_in, synced_rows, too_many, too_many_of, write_listed,
 };

@@ -10,7 +10,9 @@ ghost use Rattle.stripe_region_read.specs.sb_safe_updates_First.{write_refusal};
 ghost use Rattle.stripe_region_write.specs.Runs.{IsRun, IsRelied, AreRuns, AreRunsTorn, AreRunsUnwritten};
 
 use stripe_region_read::stretches::{relied_rows, stretch_at};
-use stripe_region_read::{Members, Refusal, Shape, Span, list_length, too_many_of, first_write_refusal};
+use stripe_region_read::{
+    Members, Refusal, Shape, Span, first_write_refusal, list_length, too_many_of,
+};
 
 /// Sectors of the list that are placed by one shape, from one up to another, and whether parity is relied on in each row that they touch.
 #[derive(Clone, Copy)]

@@ -27,8 +27,10 @@ ghost use Rattle.stripe_region_write.specs.Runs.{IsRun, AreRowsOf, AreFull, Stay
 ghost use Rattle.stripe_region_write.specs.Ends.{AreEndsStanding};
 ghost use Rattle.stripe_region_read.specs.sb_safe_updates_Frame.{Stands, Keeps};
 
-use crate::runs::{Run, runs_of, too_many_runs, first_runs_refusal};
-use stripe_region_read::{Bank, Members, Outcome, Refusal, Span, write_list_rows, mark_dirty, read_touched};
+use crate::runs::{Run, first_runs_refusal, runs_of, too_many_runs};
+use stripe_region_read::{
+    Bank, Members, Outcome, Refusal, Span, mark_dirty, read_touched, write_list_rows,
+};
 
 // The spares that were lost, and why what was asked for wasn't done.
 #[derive(Clone, Copy)]

@@ -9,7 +9,7 @@ use std::alloc::Global;
 use std::process::Abort;
 use std::test::Fail;
 use test_array_samples::{
-    CreateSpec, Opened, SHAPE, SPEC, bank_of, made, opened, write_all_rows, refusal_of_create,
+    CreateSpec, Opened, SHAPE, SPEC, bank_of, made, opened, refusal_of_create, write_all_rows,
 };
 use test_mdadm_images::{
     BITMAP, BITMAP_MEMBERS, DIRTY, DIRTY_MEMBERS, SPARE, SPARE_MEMBERS, members_of, reshaping,

@@ -13,7 +13,7 @@ use crate::state::Still;
 use array_fixed_laws::shape_in;
 use array_parts::Event;
 use array_state::asking::{copy_roles, copy_slots, visible as list_sectors};
-use array_state::{NoMemory, Status, Who, check_number, append_entry, stripes};
+use array_state::{NoMemory, Status, Who, append_entry, check_number, stripes};
 use sb_election::{Bank, is_clean};
 
 impl<B: Bank> Still<B> {

@@ -26,7 +26,7 @@ ghost use Rattle.array_fixed_laws.specs.Plain.{AreToldPlainly, IsPlainEpoch};
 
 use crate::state::Still;
 use array_parts::{Epoch, Event};
-use array_state::{Fault, Who, check_number, append_entry};
+use array_state::{Fault, Who, append_entry, check_number};
 use sb_election::Bank;
 
 impl<B: Bank> Still<B> {

@@ -11,10 +11,10 @@ ghost use Rattle.array_fixed_laws.specs.array_call_specs_Calls.{IsAnswered, IsFa
 ghost use Rattle.array_fixed_laws.specs.array_specs_Calls.{IsCalled};
 
 use crate::state::Still;
-use array_fixed_laws::{record_missing, newly_unassigned, unassigned_roles};
+use array_fixed_laws::{newly_unassigned, record_missing, unassigned_roles};
 use array_parts::{Event, LostCause, lose_slot};
 use array_state::holders::slot_of;
-use array_state::{Fault, Refusal, Who, check_number, append_entry, append_after_losses};
+use array_state::{Fault, Refusal, Who, append_after_losses, append_entry, check_number};
 use sb_election::Bank;
 
 impl<B: Bank> Still<B> {

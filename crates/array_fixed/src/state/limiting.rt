@@ -12,7 +12,7 @@ ghost use Rattle.array_fixed_laws.specs.array_specs_Visible.{visible_refusal, st
 use crate::state::Still;
 use array_fixed_laws::visible_of;
 use array_parts::{Event, PhasesLeft};
-use array_state::{BusyKind, Fault, Refusal, Who, check_number, append_entry};
+use array_state::{BusyKind, Fault, Refusal, Who, append_entry, check_number};
 use sb_election::Bank;
 
 // Whether a phase of a plan hasn't begun.

@@ -14,9 +14,9 @@ ghost use Rattle.array_fixed_laws.specs.array_specs_Calls.{IsCalled};
 ghost use Rattle.array_fixed_laws.specs.array_specs_Still.{AreLeftSettled};
 
 use crate::state::Still;
-use array_fixed_laws::{newly_unassigned, flush_and_mark, too_many, unassigned_roles};
+use array_fixed_laws::{flush_and_mark, newly_unassigned, too_many, unassigned_roles};
 use array_parts::Event;
-use array_state::{Fault, Who, check_number, append_entry, append_after_losses};
+use array_state::{Fault, Who, append_after_losses, append_entry, check_number};
 use sb_election::Bank;
 
 impl<B: Bank> Still<B> {

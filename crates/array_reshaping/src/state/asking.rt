@@ -12,7 +12,7 @@ use crate::state::Moving;
 use array_parts::Event;
 use array_reshaping_laws::{final_in, shape_in, visible};
 use array_state::asking::{copy_roles, copy_slots};
-use array_state::{NoMemory, Status, Who, check_number, append_entry};
+use array_state::{NoMemory, Status, Who, append_entry, check_number};
 use sb_election::{Bank, is_clean, list_end};
 
 impl<B: Bank> Moving<B> {

@@ -16,7 +16,7 @@ ghost use Rattle.array_reshaping_laws.specs.array_specs_Calls.{IsCalled, IsEpoch
 
 use crate::state::Moving;
 use array_parts::{Epoch, Event};
-use array_state::{Fault, Who, check_number, append_entry};
+use array_state::{Fault, Who, append_entry, check_number};
 use sb_election::Bank;
 
 impl<B: Bank> Moving<B> {

@@ -12,8 +12,8 @@ ghost use Rattle.array_reshaping_laws.specs.array_specs_Calls.{IsCalled};
 
 use crate::state::Moving;
 use array_parts::{Event, LostCause, lose_slot};
-use array_reshaping_laws::{record_missing, newly_unassigned, unassigned_roles};
-use array_state::{Fault, Refusal, Role, Who, check_number, append_entry, append_after_losses};
+use array_reshaping_laws::{newly_unassigned, record_missing, unassigned_roles};
+use array_state::{Fault, Refusal, Role, Who, append_after_losses, append_entry, check_number};
 use sb_election::{Bank, Members};
 
 // The slot that holds a role, whole or in part.

@@ -19,8 +19,10 @@ ghost use Rattle.array_reshaping_laws.specs.Mending.{IsResyncDue, IsResyncEndDue
 use crate::state::going::check_going;
 use crate::state::{Moving, all_left};
 use array_parts::{Event, StepKind};
-use array_reshaping_laws::{resync_list, newly_unassigned, flush_and_mark, too_many, first_resync_refusal, unassigned_roles};
-use array_state::{Fault, Who, append_entry, append_after_losses};
+use array_reshaping_laws::{
+    first_resync_refusal, flush_and_mark, newly_unassigned, resync_list, too_many, unassigned_roles,
+};
+use array_state::{Fault, Who, append_after_losses, append_entry};
 use sb_election::Bank;
 
 impl<B: Bank> Moving<B> {

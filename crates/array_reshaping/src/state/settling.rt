@@ -13,8 +13,8 @@ ghost use Rattle.array_reshaping_laws.specs.array_specs_Calls.{IsCalled};
 
 use crate::state::Moving;
 use array_parts::Event;
-use array_reshaping_laws::{newly_unassigned, flush_and_mark, too_many, unassigned_roles};
-use array_state::{Fault, Who, check_number, append_entry, append_after_losses};
+use array_reshaping_laws::{flush_and_mark, newly_unassigned, too_many, unassigned_roles};
+use array_state::{Fault, Who, append_after_losses, append_entry, check_number};
 use sb_election::Bank;
 
 impl<B: Bank> Moving<B> {
