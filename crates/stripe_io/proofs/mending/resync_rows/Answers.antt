@@ -72,28 +72,28 @@ write_listed-part-requires-clause-short g c =
 pub returns-then-is_some-clause-stands : goal.returns-then-is_some-clause-stands
 returns-then-is_some-clause-stands g c = λ does told list stands.
     let was = c.loop-done.invariant in
-    let did = c.put-part.ensures in
+    let did = c.write_listed-part.ensures in
     let given = g.B.Bank.given c.args.bank.now in
     let given1 = g.B.Bank.given c.loop-done.bank in
     let m = c.args.members.now in
     let n = c.loop-done.members in
-    let new = c.put-part.new.members in
-    let others = did.untouched (not-begun c.args.shape.now new c.put-part.result.begun c.put-part.result.refusal (sym c.is_some.ensures ∙ c.if-is_some.true) does did.torn) told in
-    (put-untouched given given1 was.keeps.bank.same c.args.shape.now _ _ m n new (g.B.Bank.tape c.args.bank.now) (g.B.Bank.tape c.loop-done.bank) (g.B.Bank.tape c.put-part.new.bank) was.keeps.moved
-    (moved-on was.keeps did.keeps) others (was.write_listed told)).stands list stands
+    let new = c.write_listed-part.new.members in
+    let others = did.untouched (not-begun c.args.shape.now new c.write_listed-part.result.begun c.write_listed-part.result.refusal (sym c.is_some.ensures ∙ c.if-is_some.true) does did.torn) told in
+    (put-untouched given given1 was.keeps.bank.same c.args.shape.now _ _ m n new (g.B.Bank.tape c.args.bank.now) (g.B.Bank.tape c.loop-done.bank) (g.B.Bank.tape c.write_listed-part.new.bank) was.keeps.moved
+    (moved-on was.keeps did.keeps) others (was.put told)).stands list stands
 
 pub returns-then-is_some-clause-kept : goal.returns-then-is_some-clause-kept
 returns-then-is_some-clause-kept g c = λ does told list stands row of here.
     let was = c.loop-done.invariant in
-    let did = c.put-part.ensures in
+    let did = c.write_listed-part.ensures in
     let given = g.B.Bank.given c.args.bank.now in
     let given1 = g.B.Bank.given c.loop-done.bank in
     let m = c.args.members.now in
     let n = c.loop-done.members in
-    let new = c.put-part.new.members in
-    let others = did.untouched (not-begun c.args.shape.now new c.put-part.result.begun c.put-part.result.refusal (sym c.is_some.ensures ∙ c.if-is_some.true) does did.torn) told in
-    (put-untouched given given1 was.keeps.bank.same c.args.shape.now _ _ m n new (g.B.Bank.tape c.args.bank.now) (g.B.Bank.tape c.loop-done.bank) (g.B.Bank.tape c.put-part.new.bank) was.keeps.moved
-    (moved-on was.keeps did.keeps) others (was.write_listed told)).rows list stands row of
+    let new = c.write_listed-part.new.members in
+    let others = did.untouched (not-begun c.args.shape.now new c.write_listed-part.result.begun c.write_listed-part.result.refusal (sym c.is_some.ensures ∙ c.if-is_some.true) does did.torn) told in
+    (put-untouched given given1 was.keeps.bank.same c.args.shape.now _ _ m n new (g.B.Bank.tape c.args.bank.now) (g.B.Bank.tape c.loop-done.bank) (g.B.Bank.tape c.write_listed-part.new.bank) was.keeps.moved
+    (moved-on was.keeps did.keeps) others (was.put told)).rows list stands row of
     (let high = of.1 in let rows = stripe-within given m c.requires.stands.placed c.args.shape.now c.requires.shape c.args.stripe c.requires.stripe in omega (arith, high, rows)) here.whole (inr here)
 
 pub returns-then-is_some-clause-rebuilt : goal.returns-then-is_some-clause-rebuilt
@@ -101,49 +101,49 @@ returns-then-is_some-clause-rebuilt g c = λ does told list stands role slot row
     let rows = stripe-within (g.B.Bank.given c.args.bank.now) c.args.members.now c.requires.stands.placed c.args.shape.now c.requires.shape c.args.stripe c.requires.stripe in
     let high = of.1 in
     let was = c.loop-done.invariant in
-    let did = c.put-part.ensures in
+    let did = c.write_listed-part.ensures in
     let given = g.B.Bank.given c.args.bank.now in
     let given1 = g.B.Bank.given c.loop-done.bank in
     let m = c.args.members.now in
     let n = c.loop-done.members in
-    let new = c.put-part.new.members in
-    let others = did.untouched (not-begun c.args.shape.now new c.put-part.result.begun c.put-part.result.refusal (sym c.is_some.ensures ∙ c.if-is_some.true) does did.torn) told in
-    (put-untouched given given1 was.keeps.bank.same c.args.shape.now _ _ m n new (g.B.Bank.tape c.args.bank.now) (g.B.Bank.tape c.loop-done.bank) (g.B.Bank.tape c.put-part.new.bank) was.keeps.moved
-    (moved-on was.keeps did.keeps) others (was.write_listed told)).rebuilt list stands role slot row lt is of (omega (arith, high, rows))
+    let new = c.write_listed-part.new.members in
+    let others = did.untouched (not-begun c.args.shape.now new c.write_listed-part.result.begun c.write_listed-part.result.refusal (sym c.is_some.ensures ∙ c.if-is_some.true) does did.torn) told in
+    (put-untouched given given1 was.keeps.bank.same c.args.shape.now _ _ m n new (g.B.Bank.tape c.args.bank.now) (g.B.Bank.tape c.loop-done.bank) (g.B.Bank.tape c.write_listed-part.new.bank) was.keeps.moved
+    (moved-on was.keeps did.keeps) others (was.put told)).rebuilt list stands role slot row lt is of (omega (arith, high, rows))
 
 pub returns-then-is_some-clause-others : goal.returns-then-is_some-clause-others
 returns-then-is_some-clause-others g c = λ told.
     let was = c.loop-done.invariant in
-    let did = c.put-part.ensures in
+    let did = c.write_listed-part.ensures in
     let m = c.args.members.now in
     let n = c.loop-done.members in
-    let new = c.put-part.new.members in
+    let new = c.write_listed-part.new.members in
     let given = g.B.Bank.given c.args.bank.now in
     let given1 = g.B.Bank.given c.loop-done.bank in
     let c0 = present given (g.B.Bank.tape c.args.bank.now) in
     let tape1 = g.B.Bank.tape c.loop-done.bank in
-    let tape2 = g.B.Bank.tape c.put-part.new.bank in
+    let tape2 = g.B.Bank.tape c.write_listed-part.new.bank in
     let stripe = IsOfStripe c.args.shape.now c.args.stripe in
     let touched = IsTouched c.args.shape.now (c.args.stripe * c.list_length.result + c.loop-done.done) c.min-count.result in
     let part : c.loop-done.done + c.min-count.result ≤ c.args.shape.now.chunk = (let count = c.min-count.ensures in let within = was.within in omega (arith, count, within)) in
     let valid = valid-in given m c.requires.stands.placed c.args.shape.now c.requires.shape in
     let inside : (row : ℕ) → touched row → stripe row = λ row at. parts-of_stripe c.args.shape.now c.args.stripe (c.loop-done.done + c.min-count.result) row part
     (touched-in_parts c.args.shape.now valid c.args.stripe c.list_length.result c.list_length.ensures c.loop-done.done c.min-count.result part row at) in
-    others-then given stripe m n new c0 (present given tape1) (present given tape2) (moved-on was.keeps did.keeps) (was.write_listed told).others
+    others-then given stripe m n new c0 (present given tape1) (present given tape2) (moved-on was.keeps did.keeps) (was.put told).others
     (subst (λ (b : Given). AreOtherRowsKept stripe (reading_of new) (present b tape1) (present b tape2)) was.keeps.bank.same (λ row out. did.others told row (λ at. out (inside row at))))
 
 pub returns-then-is_some-clause-safe : goal.returns-then-is_some-clause-safe
 returns-then-is_some-clause-safe g c = λ told world ledger room gone unclean list stands region allowed zeros safe.
     let was = c.loop-done.invariant in
-    let did = c.put-part.ensures in
+    let did = c.write_listed-part.ensures in
     let m = c.args.members.now in
     let n = c.loop-done.members in
-    let new = c.put-part.new.members in
+    let new = c.write_listed-part.new.members in
     let given = g.B.Bank.given c.args.bank.now in
     let given1 = g.B.Bank.given c.loop-done.bank in
     let tape0 = g.B.Bank.tape c.args.bank.now in
     let tape1 = g.B.Bank.tape c.loop-done.bank in
-    let tape2 = g.B.Bank.tape c.put-part.new.bank in
+    let tape2 = g.B.Bank.tape c.write_listed-part.new.bank in
     let stripe = IsOfStripe c.args.shape.now c.args.stripe in
     let touched = IsTouched c.args.shape.now (c.args.stripe * c.list_length.result + c.loop-done.done) c.min-count.result in
     let part : c.loop-done.done + c.min-count.result ≤ c.args.shape.now.chunk = (let count = c.min-count.ensures in let within = was.within in omega (arith, count, within)) in
@@ -153,22 +153,22 @@ returns-then-is_some-clause-safe g c = λ told world ledger room gone unclean li
     safe-on told world ledger was.keeps did.keeps room
     (λ first. was.safe told world ledger first (gone-between ledger was.keeps did.keeps gone) unclean list stands region allowed zeros safe)
     (λ then now. did.safe told world ledger then gone unclean list list (nothing-written list _)
-    (subst (λ (b : Given). DataStandsAmong c.args.shape.now touched n (present b tape1) list) (sym was.keeps.bank.same) (λ row at. (was.write_listed told).stands list stands row (inside row at))) false-true
+    (subst (λ (b : Given). DataStandsAmong c.args.shape.now touched n (present b tape1) list) (sym was.keeps.bank.same) (λ row at. (was.put told).stands list stands row (inside row at))) false-true
     (region-later given m n c.args.shape.now touched was.keeps.moved (λ x lt at. region x lt (inside (place_by m.newest x).row at)))
     (λ begun. allowed-later given m n was.keeps.moved ledger.values list allowed) (λ fit. zeros-later given m n was.keeps.moved list (zeros fit)) now)
 
 pub loop-done-preserved : goal.loop-done-preserved
 loop-done-preserved g c =
     let was = c.loop-done.invariant in
-    let did = c.put-part.ensures in
+    let did = c.write_listed-part.ensures in
     let m = c.args.members.now in
     let n = c.loop-done.members in
-    let new = c.put-part.new.members in
+    let new = c.write_listed-part.new.members in
     let given = g.B.Bank.given c.args.bank.now in
     let given1 = g.B.Bank.given c.loop-done.bank in
     let tape0 = g.B.Bank.tape c.args.bank.now in
     let tape1 = g.B.Bank.tape c.loop-done.bank in
-    let tape2 = g.B.Bank.tape c.put-part.new.bank in
+    let tape2 = g.B.Bank.tape c.write_listed-part.new.bank in
     let moved : IsMoved given n new = moved-on was.keeps did.keeps in
     let stripe = IsOfStripe c.args.shape.now c.args.stripe in
     let touched = IsTouched c.args.shape.now (c.args.stripe * c.list_length.result + c.loop-done.done) c.min-count.result in
@@ -177,15 +177,15 @@ loop-done-preserved g c =
     let inside : (row : ℕ) → touched row → stripe row = λ row at. parts-of_stripe c.args.shape.now c.args.stripe (c.loop-done.done + c.min-count.result) row part
     (touched-in_parts c.args.shape.now valid c.args.stripe c.list_length.result c.list_length.ensures c.loop-done.done c.min-count.result part row at) in
     record {
-      keeps = keeps-then was.keeps did.keeps (in-either c.loop-done.spares c.put-part.result.spares);
+      keeps = keeps-then was.keeps did.keeps (in-either c.loop-done.spares c.write_listed-part.result.spares);
       dirty = did.stays was.dirty;
       within = part;
       put = λ told.
-          let none = none-of c.put-part.result.refusal (sym c.is_some.ensures ∙ c.if-is_some.false) in
+          let none = none-of c.write_listed-part.result.refusal (sym c.is_some.ensures ∙ c.if-is_some.false) in
           let first = c.args.stripe * c.list_length.result + c.loop-done.done in
           put-then given c.args.shape.now stripe _ touched _ m n new tape0 tape1 tape2 was.keeps.moved.size moved
           (part-touches c.args.shape.now valid c.args.stripe c.list_length.result c.list_length.ensures c.loop-done.done c.min-count.result part)
-          (was.write_listed told)
+          (was.put told)
           (put-wider given c.args.shape.now touched stripe n new tape1 tape2 moved (touched-or-not c.args.shape.now first c.min-count.result) inside
           (subst (λ (b : Given). ArePut b c.args.shape.now touched touched n new tape1 tape2) was.keeps.bank.same (record {
             stands = λ list stands. did.write_listed none told list list (nothing-written list first) stands;
@@ -197,7 +197,7 @@ loop-done-preserved g c =
           safe-on told world ledger was.keeps did.keeps room
           (λ first. was.safe told world ledger first (gone-between ledger was.keeps did.keeps gone) unclean list stands region allowed zeros safe)
           (λ then now. did.safe told world ledger then gone unclean list list (nothing-written list _)
-          (subst (λ (b : Given). DataStandsAmong c.args.shape.now touched n (present b tape1) list) (sym was.keeps.bank.same) (λ row at. (was.write_listed told).stands list stands row (inside row at))) false-true
+          (subst (λ (b : Given). DataStandsAmong c.args.shape.now touched n (present b tape1) list) (sym was.keeps.bank.same) (λ row at. (was.put told).stands list stands row (inside row at))) false-true
           (region-later given m n c.args.shape.now touched was.keeps.moved (λ x lt at. region x lt (inside (place_by m.newest x).row at)))
           (λ begun. allowed-later given m n was.keeps.moved ledger.values list allowed) (λ fit. zeros-later given m n was.keeps.moved list (zeros fit)) now);
       rows = le_trans was.rows did.rows;
@@ -212,7 +212,7 @@ returns-clause-mended g c = λ ok told list stands row of whole.
     let end = c.loop-done-test.false in
     let within = was.within in
     let rows = stripe-within (g.B.Bank.given c.args.bank.now) c.args.members.now c.requires.stands.placed c.args.shape.now c.requires.shape c.args.stripe c.requires.stripe in
-    (was.write_listed told).rows list stands row of (omega (arith, high, rows)) whole (inl (low, omega (arith, high, end, within)))
+    (was.put told).rows list stands row of (omega (arith, high, rows)) whole (inl (low, omega (arith, high, end, within)))
 
 pub returns-clause-stands : goal.returns-clause-stands
 returns-clause-stands g c = λ does told. (c.loop-done.invariant.write_listed told).stands
@@ -242,22 +242,22 @@ pub is_some-requires : goal.is_some-requires
 is_some-requires g c κs a has = absurd (not-mem-nil has)
 
 pub returns-then-is_some-clause-refused : goal.returns-then-is_some-clause-refused
-returns-then-is_some-clause-refused g c = c.put-part.ensures.refused
+returns-then-is_some-clause-refused g c = c.write_listed-part.ensures.refused
 
 pub returns-then-is_some-clause-first : goal.returns-then-is_some-clause-first
-returns-then-is_some-clause-first g c = c.put-part.ensures.first
+returns-then-is_some-clause-first g c = c.write_listed-part.ensures.first
 
 pub returns-then-is_some-clause-dirty : goal.returns-then-is_some-clause-dirty
-returns-then-is_some-clause-dirty g c = c.put-part.ensures.stays c.loop-done.invariant.dirty
+returns-then-is_some-clause-dirty g c = c.write_listed-part.ensures.stays c.loop-done.invariant.dirty
 
 pub returns-then-is_some-clause-mended : goal.returns-then-is_some-clause-mended
-returns-then-is_some-clause-mended g c none told = absurd (some-none c.put-part.result.refusal (sym c.is_some.ensures ∙ c.if-is_some.true) none)
+returns-then-is_some-clause-mended g c none told = absurd (some-none c.write_listed-part.result.refusal (sym c.is_some.ensures ∙ c.if-is_some.true) none)
 
 pub returns-then-is_some-clause-rows : goal.returns-then-is_some-clause-rows
-returns-then-is_some-clause-rows g c = le_trans c.loop-done.invariant.rows c.put-part.ensures.rows
+returns-then-is_some-clause-rows g c = le_trans c.loop-done.invariant.rows c.write_listed-part.ensures.rows
 
 pub returns-then-is_some-clause-buffer : goal.returns-then-is_some-clause-buffer
-returns-then-is_some-clause-buffer g c = c.put-part.ensures.buffer ∙ c.loop-done.invariant.buffer
+returns-then-is_some-clause-buffer g c = c.write_listed-part.ensures.buffer ∙ c.loop-done.invariant.buffer
 
 pub returns-clause-dirty : goal.returns-clause-dirty
 returns-clause-dirty g c = c.loop-done.invariant.dirty
@@ -275,7 +275,7 @@ pub list_length-requires-clause-shape : goal.list_length-requires-clause-shape
 list_length-requires-clause-shape g c = force-valid c.args.members.now.newest c.requires.stands.placed.fit c.args.shape.now c.requires.shape
 
 pub returns-then-is_some-clause-keeps : goal.returns-then-is_some-clause-keeps
-returns-then-is_some-clause-keeps g c = keeps-then c.loop-done.invariant.keeps c.put-part.ensures.keeps (in-either c.loop-done.spares c.put-part.result.spares)
+returns-then-is_some-clause-keeps g c = keeps-then c.loop-done.invariant.keeps c.write_listed-part.ensures.keeps (in-either c.loop-done.spares c.write_listed-part.result.spares)
 
 pub returns-clause-keeps : goal.returns-clause-keeps
 returns-clause-keeps g c = c.loop-done.invariant.keeps

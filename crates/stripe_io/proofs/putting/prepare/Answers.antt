@@ -42,10 +42,10 @@ returns-clause-read g c = λ none told.
     let rows = c.read_touched-read.new.rows.items in
     let buffer = c.read_touched-read.new.buffer.items in
     let lost : AreLost given shape m n r f0 f1 = lost-of given shape m n r f0 f1 c.requires.stands.placed did.lost in
-    let moved : IsMoved given n c.raise-spares.new.members = moved-from given given1 n n c.raise-spares.new.members did.given refl c.raise-spares.ensures.keeps.moved in
+    let moved : IsMoved given n c.mark_dirty-spares.new.members = moved-from given given1 n n c.mark_dirty-spares.new.members did.given refl c.mark_dirty-spares.ensures.keeps.moved in
     let read = not-err c.read_touched-read.result.answer (sym c.is_err.ensures.value ∙ c.if-is_err.false) did.read told in
     record {
-      held = λ i lt. standing-later given n c.raise-spares.new.members moved lost.placed c0 c0 (λ s k other. refl) shape _ (buffered buffer i) (read i lt).held;
+      held = λ i lt. standing-later given n c.mark_dirty-spares.new.members moved lost.placed c0 c0 (λ s k other. refl) shape _ (buffered buffer i) (read i lt).held;
       listed = λ list stands full. data_read 0 shape c.args.synced (reading_of m) (reading_of n) c0 list rows buffer read
           (λ row has. stands row has (did.below row has))
           (λ synced row has. full synced row has (did.below row has));
@@ -53,7 +53,7 @@ returns-clause-read g c = λ none told.
 
 pub returns-clause-below : goal.returns-clause-below
 returns-clause-below g c row has =
-    subst (λ (n : ℕ). row < n) (sym c.raise-spares.ensures.keeps.moved.size) (subst (λ (x : Members). row < x.newest.size) (sym c.read_touched-read.ensures.lost.members) (c.read_touched-read.ensures.below row has))
+    subst (λ (n : ℕ). row < n) (sym c.mark_dirty-spares.ensures.keeps.moved.size) (subst (λ (x : Members). row < x.newest.size) (sym c.read_touched-read.ensures.lost.members) (c.read_touched-read.ensures.below row has))
 
 pub returns-then-is_err-clause-safe : goal.returns-then-is_err-clause-safe
 returns-then-is_err-clause-safe g c = λ told world ledger room gone unclean safe.
@@ -82,7 +82,7 @@ returns-then-is_err-clause-dirty g c = λ none.
     (sym c.is_err.ensures.value ∙ c.if-is_err.true) did.answer (sym c.first_write_refusal.ensures ∙ none))
 
 pub returns-clause-first : goal.returns-clause-first
-returns-clause-first g c = many-told _ c.args.shape.now c.args.synced c.raise-spares.new.members c.too_many_of.result c.too_many_of.ensures
+returns-clause-first g c = many-told _ c.args.shape.now c.args.synced c.mark_dirty-spares.new.members c.too_many_of.result c.too_many_of.ensures
 
 pub read_touched-read-requires-clause-rows : goal.read_touched-read-requires-clause-rows
 read_touched-read-requires-clause-rows g c = has-rows (g.B.Bank.given c.args.bank.now) c.args.members.now c.requires.stands.placed c.args.shape.now c.requires.shape
@@ -94,9 +94,9 @@ pub returns-clause-others : goal.returns-clause-others
 returns-clause-others g c = λ told.
     let given = g.B.Bank.given c.args.bank.now in
     let tape1 = g.B.Bank.tape c.read_touched-read.new.bank in
-    let tape2 = g.B.Bank.tape c.raise-spares.new.bank in
+    let tape2 = g.B.Bank.tape c.mark_dirty-spares.new.bank in
     subst (λ (l : List Operation). AreOthersPresent (present given l) (present given tape2)) (c.read_touched-read.ensures.tape told)
-    (subst (λ (b : Given). AreOthersPresent (present b tape1) (present b tape2)) c.read_touched-read.ensures.given (c.raise-spares.ensures.others told))
+    (subst (λ (b : Given). AreOthersPresent (present b tape1) (present b tape2)) c.read_touched-read.ensures.given (c.mark_dirty-spares.ensures.others told))
 
 pub read_touched-read-requires-clause-few : goal.read_touched-read-requires-clause-few
 read_touched-read-requires-clause-few g c = c.requires.few
@@ -140,19 +140,19 @@ returns-then-is_err-clause-buffer g c = c.read_touched-read.ensures.size
 
 pub too_many_of-requires-clause-roles : goal.too_many_of-requires-clause-roles
 too_many_of-requires-clause-roles g c =
-    let did = c.raise-spares.ensures.keeps.moved in
-    disks-within (g.B.Bank.given c.read_touched-read.new.bank) c.raise-spares.new.members did.placed c.args.shape.now
-    (alike-force c.read_touched-read.new.members.newest c.raise-spares.new.members.newest did.reshape did.shape did.size c.args.shape.now (subst (λ (x : Members). IsInForce x.newest c.args.shape.now) (sym c.read_touched-read.ensures.lost.members) c.requires.shape))
+    let did = c.mark_dirty-spares.ensures.keeps.moved in
+    disks-within (g.B.Bank.given c.read_touched-read.new.bank) c.mark_dirty-spares.new.members did.placed c.args.shape.now
+    (alike-force c.read_touched-read.new.members.newest c.mark_dirty-spares.new.members.newest did.reshape did.shape did.size c.args.shape.now (subst (λ (x : Members). IsInForce x.newest c.args.shape.now) (sym c.read_touched-read.ensures.lost.members) c.requires.shape))
 
 pub returns-clause-refused : goal.returns-clause-refused
 returns-clause-refused g c =
-    lacking-unwritten (DoesWithout c.args.shape.now c.raise-spares.new.members) c.args.shape.now c.args.synced c.raise-spares.new.members c.too_many_of.result c.too_many_of.ensures
+    lacking-unwritten (DoesWithout c.args.shape.now c.mark_dirty-spares.new.members) c.args.shape.now c.args.synced c.mark_dirty-spares.new.members c.too_many_of.result c.too_many_of.ensures
 
 pub returns-clause-dirty : goal.returns-clause-dirty
-returns-clause-dirty g c none = c.raise-spares.ensures.dirty
+returns-clause-dirty g c none = c.mark_dirty-spares.ensures.dirty
 
 pub returns-clause-stays : goal.returns-clause-stays
-returns-clause-stays g c dirty = c.raise-spares.ensures.dirty
+returns-clause-stays g c dirty = c.mark_dirty-spares.ensures.dirty
 
 pub returns-clause-touched : goal.returns-clause-touched
 returns-clause-touched g c = c.read_touched-read.ensures.touched
@@ -209,8 +209,8 @@ returns-clause-keeps g c =
     let read : Keeps g.B.Bank.tells g.B.Bank.given g.B.Bank.tape g.B.Bank.faults_of c.args.bank.now c.read_touched-read.new.bank m n 0 =
     keeps-lost c.args.bank.now c.read_touched-read.new.bank shape m n r c.requires.stands (lost-of given shape m n r f0 f1 c.requires.stands.placed did.lost) did.given (grows-none did.tape)
     (λ told. read-unused m given.start (g.B.Bank.tape c.args.bank.now) (g.B.Bank.tape c.read_touched-read.new.bank) (did.tape told)) in
-    let raised = c.raise-spares.ensures in
-    keeps-then read raised.keeps (in-second c.raise-spares.result)
+    let raised = c.mark_dirty-spares.ensures in
+    keeps-then read raised.keeps (in-second c.mark_dirty-spares.result)
 
 pub returns-clause-safe : goal.returns-clause-safe
 returns-clause-safe g c = λ told world ledger room gone unclean safe.
@@ -225,7 +225,7 @@ returns-clause-safe g c = λ told world ledger room gone unclean safe.
     let read : Keeps g.B.Bank.tells g.B.Bank.given g.B.Bank.tape g.B.Bank.faults_of c.args.bank.now c.read_touched-read.new.bank m n 0 =
     keeps-lost c.args.bank.now c.read_touched-read.new.bank shape m n r c.requires.stands (lost-of given shape m n r f0 f1 c.requires.stands.placed did.lost) did.given (grows-none did.tape)
     (λ told. read-unused m given.start (g.B.Bank.tape c.args.bank.now) (g.B.Bank.tape c.read_touched-read.new.bank) (did.tape told)) in
-    let raised = c.raise-spares.ensures in
+    let raised = c.mark_dirty-spares.ensures in
     safe-on told world ledger read raised.keeps room
     (λ early. safe-lost (OpensFit world) world.scope given ledger m n r (g.B.Bank.tape c.args.bank.now) (g.B.Bank.tape c.read_touched-read.new.bank) did.lost.members (did.tape told) safe)
     (λ late. raised.safe told world ledger late gone unclean)

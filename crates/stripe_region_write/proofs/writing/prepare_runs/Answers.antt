@@ -51,32 +51,32 @@ returns-then-not-read-clause-keeps g c =
 pub returns-then-not-read-clause-low : goal.returns-then-not-read-clause-low
 returns-then-not-read-clause-low g c =
     let did = c.read_runs-read.ensures in
-    λ none. absurd (told-never _ _ c.first_runs_refusal.result (did.first_read_refusal c.if-not-read.true) c.first_runs_refusal.ensures none)
+    λ none. absurd (told-never _ _ c.first_runs_refusal.result (did.unread c.if-not-read.true) c.first_runs_refusal.ensures none)
 
 pub returns-then-not-read-clause-high : goal.returns-then-not-read-clause-high
 returns-then-not-read-clause-high g c =
     let did = c.read_runs-read.ensures in
-    λ none. absurd (told-never _ _ c.first_runs_refusal.result (did.first_read_refusal c.if-not-read.true) c.first_runs_refusal.ensures none)
+    λ none. absurd (told-never _ _ c.first_runs_refusal.result (did.unread c.if-not-read.true) c.first_runs_refusal.ensures none)
 
 pub returns-then-not-read-clause-low_rows : goal.returns-then-not-read-clause-low_rows
 returns-then-not-read-clause-low_rows g c =
     let did = c.read_runs-read.ensures in
-    λ none. absurd (told-never _ _ c.first_runs_refusal.result (did.first_read_refusal c.if-not-read.true) c.first_runs_refusal.ensures none)
+    λ none. absurd (told-never _ _ c.first_runs_refusal.result (did.unread c.if-not-read.true) c.first_runs_refusal.ensures none)
 
 pub returns-then-not-read-clause-high_rows : goal.returns-then-not-read-clause-high_rows
 returns-then-not-read-clause-high_rows g c =
     let did = c.read_runs-read.ensures in
-    λ none. absurd (told-never _ _ c.first_runs_refusal.result (did.first_read_refusal c.if-not-read.true) c.first_runs_refusal.ensures none)
+    λ none. absurd (told-never _ _ c.first_runs_refusal.result (did.unread c.if-not-read.true) c.first_runs_refusal.ensures none)
 
 pub returns-then-not-read-clause-dirty : goal.returns-then-not-read-clause-dirty
 returns-then-not-read-clause-dirty g c =
     let did = c.read_runs-read.ensures in
-    λ none. absurd (told-never _ _ c.first_runs_refusal.result (did.first_read_refusal c.if-not-read.true) c.first_runs_refusal.ensures none)
+    λ none. absurd (told-never _ _ c.first_runs_refusal.result (did.unread c.if-not-read.true) c.first_runs_refusal.ensures none)
 
 pub returns-then-not-read-clause-does : goal.returns-then-not-read-clause-does
 returns-then-not-read-clause-does g c =
     let did = c.read_runs-read.ensures in
-    λ none. absurd (told-never _ _ c.first_runs_refusal.result (did.first_read_refusal c.if-not-read.true) c.first_runs_refusal.ensures none)
+    λ none. absurd (told-never _ _ c.first_runs_refusal.result (did.unread c.if-not-read.true) c.first_runs_refusal.ensures none)
 
 pub returns-then-not-read-clause-stays : goal.returns-then-not-read-clause-stays
 returns-then-not-read-clause-stays g c =
@@ -114,8 +114,8 @@ too_many_runs-requires-clause-low g c =
     let given = g.B.Bank.given c.args.bank.now in
     let given1 = g.B.Bank.given c.read_runs-read.new.bank in
     let did = c.read_runs-read.ensures in
-    let p = c.raise-spares.new.members in
-    let named = c.raise-spares.ensures in
+    let p = c.mark_dirty-spares.new.members in
+    let named = c.mark_dirty-spares.ensures in
     let two : IsMoved given n p = moved-from given given1 n n p did.given refl named.keeps.moved in
     let all : IsMoved given m p = moved-then given m n p did.moved two in
     alike-force m.newest p.newest all.reshape all.shape all.size c.args.low.now.shape c.requires.low.force
@@ -127,8 +127,8 @@ too_many_runs-requires-clause-high g c =
     let given = g.B.Bank.given c.args.bank.now in
     let given1 = g.B.Bank.given c.read_runs-read.new.bank in
     let did = c.read_runs-read.ensures in
-    let p = c.raise-spares.new.members in
-    let named = c.raise-spares.ensures in
+    let p = c.mark_dirty-spares.new.members in
+    let named = c.mark_dirty-spares.ensures in
     let two : IsMoved given n p = moved-from given given1 n n p did.given refl named.keeps.moved in
     let all : IsMoved given m p = moved-then given m n p did.moved two in
     alike-force m.newest p.newest all.reshape all.shape all.size c.args.high.now.shape c.requires.high.force
@@ -138,7 +138,7 @@ returns-clause-keeps g c =
     let did = c.read_runs-read.ensures in
     let read : Keeps g.B.Bank.tells g.B.Bank.given g.B.Bank.tape g.B.Bank.faults_of c.args.bank.now c.read_runs-read.new.bank c.args.members.now c.read_runs-read.new.members 0 =
     keeps-read did.lost.0 did.lost.1 did.tape did.given did.counts did.moved did.failed in
-    keeps-then read c.raise-spares.ensures.keeps (in-second c.raise-spares.result)
+    keeps-then read c.mark_dirty-spares.ensures.keeps (in-second c.mark_dirty-spares.result)
 
 pub returns-clause-refused : goal.returns-clause-refused
 returns-clause-refused g c =
@@ -149,8 +149,8 @@ returns-clause-others g c =
     let given = g.B.Bank.given c.args.bank.now in
     let did = c.read_runs-read.ensures in
     let tape1 = g.B.Bank.tape c.read_runs-read.new.bank in
-    let named = c.raise-spares.ensures in
-    let tape2 = g.B.Bank.tape c.raise-spares.new.bank in
+    let named = c.mark_dirty-spares.ensures in
+    let tape2 = g.B.Bank.tape c.mark_dirty-spares.new.bank in
     λ told. subst (λ (l : List Operation). AreOthersPresent (present given l) (present given tape2)) (did.tape told)
     (subst (λ (b : Given). AreOthersPresent (present b tape1) (present b tape2)) did.given (named.others told))
 
@@ -161,8 +161,8 @@ returns-clause-low g c =
     let given1 = g.B.Bank.given c.read_runs-read.new.bank in
     let did = c.read_runs-read.ensures in
     let tape0 = g.B.Bank.tape c.args.bank.now in
-    let p = c.raise-spares.new.members in
-    let named = c.raise-spares.ensures in
+    let p = c.mark_dirty-spares.new.members in
+    let named = c.mark_dirty-spares.ensures in
     let two : IsMoved given n p = moved-from given given1 n n p did.given refl named.keeps.moved in
     λ none told.
     let c0 = present given tape0 in
@@ -179,8 +179,8 @@ returns-clause-high g c =
     let given1 = g.B.Bank.given c.read_runs-read.new.bank in
     let did = c.read_runs-read.ensures in
     let tape0 = g.B.Bank.tape c.args.bank.now in
-    let p = c.raise-spares.new.members in
-    let named = c.raise-spares.ensures in
+    let p = c.mark_dirty-spares.new.members in
+    let named = c.mark_dirty-spares.ensures in
     let two : IsMoved given n p = moved-from given given1 n n p did.given refl named.keeps.moved in
     λ none told.
     let c0 = present given tape0 in
@@ -209,9 +209,9 @@ returns-clause-safe g c =
     let did = c.read_runs-read.ensures in
     let tape0 = g.B.Bank.tape c.args.bank.now in
     let tape1 = g.B.Bank.tape c.read_runs-read.new.bank in
-    let p = c.raise-spares.new.members in
-    let named = c.raise-spares.ensures in
-    let tape2 = g.B.Bank.tape c.raise-spares.new.bank in
+    let p = c.mark_dirty-spares.new.members in
+    let named = c.mark_dirty-spares.ensures in
+    let tape2 = g.B.Bank.tape c.mark_dirty-spares.new.bank in
     λ tell world told room gone unclean now.
     let read = safe-lost (OpensFit world) world.scope given told m n did.lost.0 tape0 tape1 did.lost.1 (did.tape tell) now in
     safe-then (OpensFit world) world.scope given told n p tape0 tape1 tape2 read
@@ -264,10 +264,10 @@ pub returns-then-not-read-clause-far_buffer : goal.returns-then-not-read-clause-
 returns-then-not-read-clause-far_buffer g c = c.read_runs-read.ensures.far_buffer
 
 pub returns-clause-dirty : goal.returns-clause-dirty
-returns-clause-dirty g c none = c.raise-spares.ensures.dirty
+returns-clause-dirty g c none = c.mark_dirty-spares.ensures.dirty
 
 pub returns-clause-stays : goal.returns-clause-stays
-returns-clause-stays g c dirty = c.raise-spares.ensures.dirty
+returns-clause-stays g c dirty = c.mark_dirty-spares.ensures.dirty
 
 pub returns-clause-rows : goal.returns-clause-rows
 returns-clause-rows g c = c.read_runs-read.ensures.rows
