@@ -47,16 +47,16 @@ pub fn encode(uuid: &[u8; 16], arraystart: u64, length: u64) -> [u8; 512]
     ensures { result ≡ header_with uuid.now arraystart length }
 {
     let mut sector = [0u8; 512];
-    write_listed(&mut sector, 0, MAGIC);
-    write_listed(&mut sector, 40, &SECTION_START.to_le_bytes());
-    write_listed(&mut sector, 48, &arraystart.to_le_bytes());
-    write_listed(&mut sector, 56, &length.to_le_bytes());
-    write_listed(&mut sector, 16, uuid);
+    put(&mut sector, 0, MAGIC);
+    put(&mut sector, 40, &SECTION_START.to_le_bytes());
+    put(&mut sector, 48, &arraystart.to_le_bytes());
+    put(&mut sector, 56, &length.to_le_bytes());
+    put(&mut sector, 16, uuid);
     sector
 }
 
 // Puts bytes in place.
-fn write_listed(sector: &mut [u8; 512], at: usize, bytes: &[u8])
+fn put(sector: &mut [u8; 512], at: usize, bytes: &[u8])
     requires { at + length bytes.now ≤ 512 }
     ensures { sector.new ≡ take at sector.old ++ (bytes.now ++ drop (at + length bytes.now) sector.old) }
 {

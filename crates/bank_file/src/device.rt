@@ -113,7 +113,7 @@ pub fn write_whole<D: Device>(
     ensures rises { number.old ≤ number.new }
     ensures within { number.new ≤ number.old + length from.now / 512 }
     ensures all { OnOk result (number.new ≡ number.old + length from.now / 512) }
-    ensures write_listed { D.tells → IsPut (D.bytes device.old) (D.bytes device.new) (512 * at) (512 * (number.new - number.old)) from.now }
+    ensures put { D.tells → IsPut (D.bytes device.old) (D.bytes device.new) (512 * at) (512 * (number.new - number.old)) from.now }
     ensures logged { D.tells → IsLogged (D.log device.old) (D.log device.new) number.old at (number.new - number.old) from.now }
     ensures start { D.start device.new ≡ D.start device.old }
     ensures stumbled { OnErr result (D.tells → HasStumbled (D.stumbles device.old) (D.stumbles device.new)) }

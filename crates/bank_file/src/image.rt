@@ -77,7 +77,7 @@ impl<D: Device> Image<D> {
         ensures rises { number.old ≤ number.new }
         ensures few { number.new ≤ number.old + length from.now / 512 }
         ensures all { OnOk result (number.new ≡ number.old + length from.now / 512) }
-        ensures write_listed { D.tells → IsPut (D.bytes self.old.device) (D.bytes self.new.device) (512 * at) (512 * (number.new - number.old)) from.now }
+        ensures put { D.tells → IsPut (D.bytes self.old.device) (D.bytes self.new.device) (512 * at) (512 * (number.new - number.old)) from.now }
         ensures logged { D.tells → IsLogged (D.log self.old.device) (D.log self.new.device) number.old at (number.new - number.old) from.now }
         ensures start { D.start self.new.device ≡ D.start self.old.device }
         ensures failed { OnErr result (D.tells → (0 < self.old.faults) ⊎ (2 ^ 64 ≤ number.old + length from.now / 512)

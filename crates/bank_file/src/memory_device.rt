@@ -95,11 +95,11 @@ impl MemoryDevice {
     }
 
     // Puts one sector.
-    fn write_listed(&mut self, number: u64, from: &[u8], offset: u64) -> Result<(), AllocError>
+    fn put(&mut self, number: u64, from: &[u8], offset: u64) -> Result<(), AllocError>
         requires size { length from.now ≡ 512 }
         requires place { 512 * (offset / 512) ≡ offset }
         requires within { offset + 512 ≤ length self.old.held.items }
-        ensures write_listed { OnOk result (IsPut (slice_index self.old.held.items) (slice_index self.new.held.items) offset 512 from.now) }
+        ensures put { OnOk result (IsPut (slice_index self.old.held.items) (slice_index self.new.held.items) offset 512 from.now) }
         ensures logged { OnOk result (IsLogged (noted self.old.log.items) (noted self.new.log.items) number (offset / 512) 1 from.now) }
         ensures same { OnErr result (self.new.held.items ≡ self.old.held.items) }
         ensures kept { OnErr result (self.new.log.items ≡ self.old.log.items) }
@@ -168,7 +168,7 @@ impl Device for MemoryDevice {
         let mut done = 0;
         for i in 0..most {
             let sector = &from[512 * i..512 * i + 512];
-            match self.write_listed(number + i as u64, sector, offset + 512 * i as u64) {
+            match self.put(number + i as u64, sector, offset + 512 * i as u64) {
                 Ok(()) => done = i + 1,
                 Err(_) => break,
             }

@@ -19,7 +19,7 @@ fn was_short(reply: &Reply) -> bool
 }
 
 // Appends a reply, for which there is room.
-fn write_listed(replies: &mut Vec<Reply>, reply: Reply)
+fn put(replies: &mut Vec<Reply>, reply: Reply)
     requires room { vec_len replies.old < vec_capacity replies.old }
     ensures items { replies.new.items ≡ replies.old.items ++ reply ∷ [] }
     ensures len { vec_len replies.new ≡ vec_len replies.old + 1 }
@@ -49,7 +49,7 @@ fn make<R: Wait, S: Service>(
 {
     let (pass, reply) = service.call(rt, pass, request);
     let short = was_short(&reply);
-    write_listed(replies, reply);
+    put(replies, reply);
     (pass, short)
 }
 

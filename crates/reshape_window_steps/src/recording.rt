@@ -70,9 +70,9 @@ fn move_position<B: Bank>(members: &mut Members, bank: &mut B, span: &Span) -> u
         → IsSafeOver world (B.given bank.old) told members.old (B.tape bank.old)
         → KeepsSafe world (B.given bank.old) told members.new (B.tape bank.old) (B.tape bank.new) }
 {
-    let write_listed = put_position(members, bank, span);
+    let put = put_position(members, bank, span);
     let named = record_missing(members, bank);
-    write_listed | named
+    put | named
 }
 
 /// Records the next window, whose rows are copied: flushes the slots that hold roles, and moves the position behind it. What is

@@ -113,7 +113,7 @@ fn clear_roles(entries: &mut [u16; 384])
 }
 
 // A device's entry.
-fn append_entry(entries: &mut [u16; 384], entry: Option<u32>, own: &SbList, slot: u32)
+fn enter(entries: &mut [u16; 384], entry: Option<u32>, own: &SbList, slot: u32)
     requires slot { slot < 32 }
     requires below { IfSome entry (λ e. e < 2 ^ 16) }
     ensures { entries.new ≡ with_entry entry (own_in own.now slot) entries.old }
@@ -135,7 +135,7 @@ fn entered(members: &Members, change: &Change, before: u32) -> [u16; 384]
     clear_roles(&mut entries);
     for slot in 0..32u32 {
         let entry = entry_for(members, change, before, slot);
-        append_entry(&mut entries, entry, &members.own, slot);
+        enter(&mut entries, entry, &members.own, slot);
     }
     entries
 }

@@ -63,7 +63,7 @@ fn read_runs<B: Bank>(
     ensures moved { IsMoved (B.given bank.old) members.old members.new }
     ensures lost { (lost : ℕ) × (members.new ≡ members_without lost members.old) }
     ensures failed { HaveFailedSince members.old members.new 0 (B.faults_of bank.old) (B.faults_of bank.new) }
-    ensures first_read_refusal { result ≡ false → ((write_refusal low.now.shape low.now.synced members.new ≡ None) × (write_refusal high.now.shape high.now.synced members.new ≡ None)) → ⊥ }
+    ensures unread { result ≡ false → ((write_refusal low.now.shape low.now.synced members.new ≡ None) × (write_refusal high.now.shape high.now.synced members.new ≡ None)) → ⊥ }
     ensures low { result ≡ true → B.tells → AreRowsRead low.now.shape low.now.synced members.old members.new (present (B.given bank.old) (B.tape bank.old)) rows.new.items buffer.new.items }
     ensures high { result ≡ true → B.tells → AreRowsRead high.now.shape high.now.synced members.old members.new (present (B.given bank.old) (B.tape bank.old)) far_rows.new.items far_buffer.new.items }
     ensures low_rows { result ≡ true → AreRowsOf low.now members.old.newest.size rows.new.items }

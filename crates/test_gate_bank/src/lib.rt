@@ -58,7 +58,7 @@ impl Words {
     }
 
     // The first write waits until it is let on.
-    fn append_entry(&self) {
+    fn enter(&self) {
         if self.inside.swap(1, Ordering::SeqCst) == 0 && !wait_for(&self.open) {
             self.late.store(1, Ordering::SeqCst);
         }
@@ -119,7 +119,7 @@ impl Bank for Doors {
 
     fn write(&mut self, slot: u32, at: u64, from: &[u8]) -> Result<(), BankFault> {
         if from.starts_with(&self.begin) {
-            self.words.append_entry();
+            self.words.enter();
         }
         self.bank.write(slot, at, from)
     }

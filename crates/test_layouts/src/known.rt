@@ -7,7 +7,7 @@ use raid_types::RowRoles;
 use std::process::Abort;
 
 // Puts each byte in its place.
-fn write_listed(row: &mut [u8], bytes: &[(u16, u8)])
+fn put(row: &mut [u8], bytes: &[(u16, u8)])
     ensures { length row.new ≡ length row.old }
 {
     for (at, byte) in bytes {
@@ -35,7 +35,7 @@ fn compare(rt: &impl Abort, roles: &RowRoles, data: &[(u16, u8)], wanted: &[(u16
 {
     let end = 512 * roles.disks as usize;
     let mut plain = [0u8; 2560];
-    write_listed(&mut plain, data);
+    put(&mut plain, data);
     let mut lanes = plain;
     raid_parity::syndromes(&mut plain[..end], roles);
     assert!(rt; has(&plain, wanted), "{roles:?}");
@@ -52,7 +52,7 @@ fn fill(rt: &impl Abort, roles: &RowRoles)
     requires q { IsSome roles.now.q }
 {
     let mut row = [0u8; 2048];
-    write_listed(&mut row, &[(511, 7), (1023, 1), (1535, 0), (2047, 3)]);
+    put(&mut row, &[(511, 7), (1023, 1), (1535, 0), (2047, 3)]);
     raid_parity::fill_one(row.as_mut_slice(), roles, 0);
     assert!(rt; row[511] == 1);
     row[1023] = 9;
@@ -67,7 +67,7 @@ fn fill_by_lanes(rt: &impl Abort, roles: &RowRoles)
     requires q { IsSome roles.now.q }
 {
     let mut row = [0u8; 2048];
-    write_listed(&mut row, &[(511, 7), (1023, 1), (1535, 0), (2047, 3)]);
+    put(&mut row, &[(511, 7), (1023, 1), (1535, 0), (2047, 3)]);
     raid_parity_simd::fill_one(row.as_mut_slice(), roles, 0);
     assert!(rt; row[511] == 1);
     row[1023] = 9;

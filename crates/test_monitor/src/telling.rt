@@ -8,11 +8,11 @@ use std::alloc::Global;
 use std::test::Fail;
 
 // One entry more, of caller 0.
-fn write_listed(entries: &mut Entries, event: Event) -> Result<(), Fail> {
+fn put(entries: &mut Entries, event: Event) -> Result<(), Fail> {
     if entries.make_room(1).is_err() {
         return Err(Fail::from("no memory"));
     }
-    entries.write_listed(Entry {
+    entries.put(Entry {
         caller: 0,
         number: 0,
         end: 0,
@@ -29,22 +29,22 @@ fn step(kind: StepKind) -> Event {
 // Role 1 is failed, and rebuilt onto a spare in seven steps.
 fn rebuilt(alloc: Global) -> Result<Entries, Fail> {
     let mut entries = Entries::new(alloc);
-    write_listed(&mut entries, Event::Added { slot: 3 })?;
-    write_listed(
+    put(&mut entries, Event::Added { slot: 3 })?;
+    put(
         &mut entries,
         Event::Lost {
             role: 1,
             cause: LostCause::Command,
         },
     )?;
-    write_listed(&mut entries, Event::Failed { role: 1 })?;
-    write_listed(&mut entries, step(StepKind::RebuildTaken))?;
+    put(&mut entries, Event::Failed { role: 1 })?;
+    put(&mut entries, step(StepKind::RebuildTaken))?;
     for _stripe in 0..5u32 {
-        write_listed(&mut entries, step(StepKind::RebuildStripe))?;
+        put(&mut entries, step(StepKind::RebuildStripe))?;
     }
-    write_listed(&mut entries, step(StepKind::RebuildEnded))?;
-    write_listed(&mut entries, Event::Rebuilt { role: 1 })?;
-    write_listed(
+    put(&mut entries, step(StepKind::RebuildEnded))?;
+    put(&mut entries, Event::Rebuilt { role: 1 })?;
+    put(
         &mut entries,
         Event::Stepped {
             done: 7,
@@ -59,7 +59,7 @@ fn rebuilt(alloc: Global) -> Result<Entries, Fail> {
 fn resynced(alloc: Global) -> Result<Entries, Fail> {
     let mut entries = Entries::new(alloc);
     for role in [2, 4] {
-        write_listed(
+        put(
             &mut entries,
             Event::Lost {
                 role,
@@ -67,10 +67,10 @@ fn resynced(alloc: Global) -> Result<Entries, Fail> {
             },
         )?;
     }
-    write_listed(&mut entries, step(StepKind::ResyncStripe))?;
-    write_listed(&mut entries, Event::SpareLost { slot: 5 })?;
-    write_listed(&mut entries, step(StepKind::ResyncStripe))?;
-    write_listed(&mut entries, step(StepKind::ResyncEnded))?;
+    put(&mut entries, step(StepKind::ResyncStripe))?;
+    put(&mut entries, Event::SpareLost { slot: 5 })?;
+    put(&mut entries, step(StepKind::ResyncStripe))?;
+    put(&mut entries, step(StepKind::ResyncEnded))?;
     Ok(entries)
 }
 

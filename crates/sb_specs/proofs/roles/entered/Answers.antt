@@ -10,7 +10,7 @@ pub loop-slot-preserved : goal.loop-slot-preserved
 loop-slot-preserved c =
     let own = c.args.members.now.own in
     let slot = c.loop-slot.slot in
-    c.append_entry.ensures
+    c.enter.ensures
     ∙ ap (λ e. with_entry e (own_in own slot) c.loop-slot.entries) c.entry_for-entry.ensures.entry
     ∙ ap (λ (l : List ℕ). with_entry (entry_for c.args.members.now c.args.change.now c.args.before c.args.members.now.lost slot) (own_in own slot) l) c.loop-slot.invariant
     ∙ sym (entries-more _ own slot _)

@@ -7,9 +7,9 @@ loop-i-preserved c =
     let was = c.loop-i.invariant in
     let i = c.loop-i.i in (
       refl,
-      put_at refl (omega arith) (put_more (512 * i + 512 - 512 * i) (omega arith) was.1 c.in-Ok.ensures.write_listed),
+      put_at refl (omega arith) (put_more (512 * i + 512 - 512 * i) (omega arith) was.1 c.in-Ok.ensures.put),
       logged_more (512 * i + 512 - 512 * i) (omega arith) was.2 (logged_at (let place = c.requires.place in omega (arith, place)) refl c.in-Ok.ensures.logged),
-      c.write_listed.ensures.long ∙ was.3,
-      c.write_listed.ensures.start ∙ was.4,
-      c.write_listed.ensures.stumbles ∙ was.5,
+      c.put.ensures.long ∙ was.3,
+      c.put.ensures.start ∙ was.4,
+      c.put.ensures.stumbles ∙ was.5,
     )
