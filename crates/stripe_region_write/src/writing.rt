@@ -257,7 +257,7 @@ pub fn write_list<B: Bank>(
     ensures torn { result.begun ≡ true → MatchOption result.refusal ⊤ (IsListTorn first (first + length from.now / 512) members.new) }
     ensures torn_rows { MatchOption result.refusal ⊤ (λ refusal. B.tells → AreOtherRowsKept (IsTornTouched members.old.newest first (first + length from.now / 512) members.new) (reading_of members.new)
         (present (B.given bank.old) (B.tape bank.old)) (present (B.given bank.old) (B.tape bank.new))) }
-    ensures write_listed { result.refusal ≡ None → B.tells → (among : Shape → Bool) → (hidden : Option Span) → (list list' : ℕ → Sector) → IsWritten list list' first from.now
+    ensures put { result.refusal ≡ None → B.tells → (among : Shape → Bool) → (hidden : Option Span) → (list list' : ℕ → Sector) → IsWritten list list' first from.now
         → ListStandsIn (λ s. among s ≡ true) hidden members.old (present (B.given bank.old) (B.tape bank.old)) list
         → ListStandsIn (λ s. among s ≡ true) hidden members.new (present (B.given bank.old) (B.tape bank.new)) list' }
     ensures tail { result.refusal ≡ None → B.tells → (list list' : ℕ → Sector) → IsWritten list list' first from.now

@@ -279,7 +279,7 @@ invariant_of-still-2 g c =
     let since = lost-since given a.members m c.shape_in-shape.result.disks c.unassigned_roles-before.result roles spares before after here.placed did.keeps.moved did.keeps.failed
     (ap (λ (s : Shape). s.disks) c.shape_in-shape.ensures ∙ sym (count-still a.members.newest here.still)) c.unassigned_roles-before.ensures c.newly_unassigned-roles.ensures in
     let put = put-still given tape tape' a.members m here did.keeps.moved a.work.resync shape c.shape_in-shape.ensures c.args.at from synced asked since did.keeps.bank.grows did.stays did.keeps.rise did.safe in
-    let written = written-still given tape tape' a.members m here did.keeps.moved a.work.resync shape c.shape_in-shape.ensures c.args.at from synced asked (did.dirty done) did.others (did.write_listed done)
+    let written = written-still given tape tape' a.members m here did.keeps.moved a.work.resync shape c.shape_in-shape.ensures c.args.at from synced asked (did.dirty done) did.others (did.put done)
     (λ t list more written. did.good done t list more written bytes) (did.rebuilt done) in
     with-buffers (let fits = was.rows_fit in let more = did.rows in omega (arith, fits, more)) (rw did.buffer was.buffer_fits)
     (ready (entries_of c.args.who end (losses_of roles spares ++ Wrote c.args.at body ∷ [])) was (rows-moved given a.members m did.keeps.moved)

@@ -188,7 +188,7 @@ loop-done-preserved g c =
           (was.put told)
           (put-wider given c.args.shape.now touched stripe n new tape1 tape2 moved (touched-or-not c.args.shape.now first c.min-count.result) inside
           (subst (λ (b : Given). ArePut b c.args.shape.now touched touched n new tape1 tape2) was.keeps.bank.same (record {
-            stands = λ list stands. did.write_listed none told list list (nothing-written list first) stands;
+            stands = λ list stands. did.put none told list list (nothing-written list first) stands;
             rows = λ list stands row has lt whole is. did.good none told list list (nothing-written list first) no-bytes stands false-true row has lt whole;
             rebuilt = λ list stands role slot row below is has lt. did.rebuilt none told list list (nothing-written list first) stands false-true role slot row below is has lt;
             others = did.others told;
@@ -215,22 +215,22 @@ returns-clause-mended g c = λ ok told list stands row of whole.
     (was.put told).rows list stands row of (omega (arith, high, rows)) whole (inl (low, omega (arith, high, end, within)))
 
 pub returns-clause-stands : goal.returns-clause-stands
-returns-clause-stands g c = λ does told. (c.loop-done.invariant.write_listed told).stands
+returns-clause-stands g c = λ does told. (c.loop-done.invariant.put told).stands
 
 pub returns-clause-kept : goal.returns-clause-kept
 returns-clause-kept g c = λ does told list stands row of here.
     let high = of.1 in
     let rows = stripe-within (g.B.Bank.given c.args.bank.now) c.args.members.now c.requires.stands.placed c.args.shape.now c.requires.shape c.args.stripe c.requires.stripe in
-    (c.loop-done.invariant.write_listed told).rows list stands row of (omega (arith, high, rows)) here.whole (inr here)
+    (c.loop-done.invariant.put told).rows list stands row of (omega (arith, high, rows)) here.whole (inr here)
 
 pub returns-clause-rebuilt : goal.returns-clause-rebuilt
 returns-clause-rebuilt g c = λ does told list stands role slot row lt is of.
     let high = of.1 in
     let rows = stripe-within (g.B.Bank.given c.args.bank.now) c.args.members.now c.requires.stands.placed c.args.shape.now c.requires.shape c.args.stripe c.requires.stripe in
-    (c.loop-done.invariant.write_listed told).rebuilt list stands role slot row lt is of (omega (arith, high, rows))
+    (c.loop-done.invariant.put told).rebuilt list stands role slot row lt is of (omega (arith, high, rows))
 
 pub returns-clause-others : goal.returns-clause-others
-returns-clause-others g c = λ told. (c.loop-done.invariant.write_listed told).others
+returns-clause-others g c = λ told. (c.loop-done.invariant.put told).others
 
 pub write_listed-part-requires-clause-rows : goal.write_listed-part-requires-clause-rows
 write_listed-part-requires-clause-rows g c = le_trans c.requires.rows c.loop-done.invariant.rows

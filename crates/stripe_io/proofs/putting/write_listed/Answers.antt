@@ -40,8 +40,8 @@ write_list_rows-done-requires-clause-standing g c = λ told.
     (subst (λ (l : List ℕ). (i : ℕ) → i < length l → AreStanding (reading_of m2) c2 shape (slice_index l i) (buffered buffer i)) (sym c.as_slice.ensures.value)
     (λ i lt. standing-later given m2 m2 (moved-same given given m2 m2 refl refl did.keeps.moved.placed did.keeps.moved.unlost) did.keeps.moved.placed c0 c2 (did.others told) shape _ (buffered buffer i) (read.held i lt)))
 
-pub returns-clause-write_listed : goal.returns-clause-write_listed
-returns-clause-write_listed g c = λ ok told list list' w stands.
+pub returns-clause-put : goal.returns-clause-put
+returns-clause-put g c = λ ok told list list' w stands.
     let given = g.B.Bank.given c.args.bank.now in
     let given2 = g.B.Bank.given c.prepare-begun.new.bank in
     let m = c.args.members.now in
@@ -210,8 +210,8 @@ returns-then-is_some-clause-dirty g c = c.prepare-begun.ensures.dirty
 pub returns-then-is_some-clause-torn : goal.returns-then-is_some-clause-torn
 returns-then-is_some-clause-torn g c begun = false-true begun
 
-pub returns-then-is_some-clause-write_listed : goal.returns-then-is_some-clause-write_listed
-returns-then-is_some-clause-write_listed g c none told list list' w stands = absurd (some-none c.prepare-begun.result.refusal (sym c.is_some.ensures ∙ c.if-is_some.true) none)
+pub returns-then-is_some-clause-put : goal.returns-then-is_some-clause-put
+returns-then-is_some-clause-put g c none told list list' w stands = absurd (some-none c.prepare-begun.result.refusal (sym c.is_some.ensures ∙ c.if-is_some.true) none)
 
 pub returns-then-is_some-clause-good : goal.returns-then-is_some-clause-good
 returns-then-is_some-clause-good g c none told = absurd (some-none c.prepare-begun.result.refusal (sym c.is_some.ensures ∙ c.if-is_some.true) none)
