@@ -155,7 +155,7 @@ pub fn make<B: Bank>(
     ensures refused { IfErr result (HasCreateCause B.tells (B.given bank.old) (present (B.given bank.old) (B.tape bank.old)) backup spec.now
         (B.faults_of bank.old) (B.faults_of bank.new)) }
     ensures untouched { (refusal : AnyRefusal) → create_refusal (B.given bank.old) backup spec.now ≡ Some refusal → bank.new ≡ bank.old }
-    ensures first_write_refusal { (slot : ℕ) → result ≡ Err (IsRefused (IsInUse slot)) → B.tells → OnlyFlushesAdded (B.tape bank.old) (B.tape bank.new) }
+    ensures unwritten { (slot : ℕ) → result ≡ Err (IsRefused (IsInUse slot)) → B.tells → OnlyFlushesAdded (B.tape bank.old) (B.tape bank.new) }
     ensures short { result ≡ Err WantsMemory → B.tells → OnlyFlushesAdded (B.tape bank.old) (B.tape bank.new) }
     ensures tape { B.tells → OnlyBelow spec.now.shape.disks (B.tape bank.old) (B.tape bank.new) }
     ensures slots { B.given bank.new ≡ B.given bank.old }

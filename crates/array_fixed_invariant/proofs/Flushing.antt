@@ -1,4 +1,4 @@
--- A flush, a stop, or the end of a resync, from what `settle` leaves; and a flush or a stop that is refused since too many are missing.
+-- A flush, a stop, or the end of a resync, from what `flush_and_mark` leaves; and a flush or a stop that is refused since too many are missing.
 use Rattle.std.proofs.Common.{◌≡◌, inl, inr, ℕ, ◌<◌, ◌≤◌, ◌==◌, ◌&&◌, Bool, true, false, not, List, [], ◌∷◌, ◌++◌, length, refl, sym, ◌∙◌, ap, subst, arith}
 use Rattle.std.specs.Prelude.{IsFalse, IfSome, IsSome, is_some, ⊤}
 use Rattle.array_reshaping_invariant.specs.raid_types_Sectors.{Sector}
@@ -59,7 +59,7 @@ use Rattle.array_fixed_invariant.proofs.Refusals.{too-many-refused, refused-righ
 use Rattle.array_fixed_invariant.proofs.Staying.{missing-since, progress-same}
 use Rattle.array_fixed_invariant.proofs.Stood.{stood-moved}
 
--- What `settle` leaves, in an array that is unsynced behind it or not: none but superblocks is written, and each mark is safe.
+-- What `flush_and_mark` leaves, in an array that is unsynced behind it or not: none but superblocks is written, and each mark is safe.
 pub record IsFlushedStill (tells : Type 0) (given : Given) (tape tape' : List Operation) (old new : Members) (roles spares : ℕ) (before after : ℕ → ℕ) (unsynced : Bool) : Type 0 where
   pub moved : IsMoved given old new
   pub since : AreLostSince old new roles spares before after

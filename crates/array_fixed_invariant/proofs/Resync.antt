@@ -1,4 +1,4 @@
--- Steps of a resync: a stripe is mended, from what `mend` leaves, or isn't; and the resync ends, from what `settle` leaves.
+-- Steps of a resync: a stripe is mended, from what `resync_rows` leaves, or isn't; and the resync ends, from what `flush_and_mark` leaves.
 use Rattle.std.proofs.Common.{◌≡◌, ◌≢◌, inl, inr, ℕ, ◌+◌, ◌*◌, ◌<◌, ◌≤◌, ◌==◌, ◌&&◌, Bool, true, false, cond, Option, Some, None, List, [], ◌∷◌, ◌++◌, length, refl, sym, ◌∙◌, ap, subst, arith, append-nil}
 use Rattle.std.specs.Prelude.{IsFalse, IfSome, IsSome, is_some, MatchBool, ⊤}
 use Rattle.std.specs.List.{list_any}
@@ -100,7 +100,7 @@ told-step entries who end roles spares kind left' = subst (λ (o : Option ℕ). 
 
 -- ---- a stripe
 
--- What `mend` leaves of a stripe, whether it was mended or not: the list stands, and each row that stood.
+-- What `resync_rows` leaves of a stripe, whether it was mended or not: the list stands, and each row that stood.
 pub record IsResyncingStill (tells : Type 0) (given : Given) (tape tape' : List Operation) (old new : Members) (roles spares : ℕ) (before after : ℕ → ℕ) (shape : Shape) (stripe : ℕ) : Type 0 where
   pub moved : IsMoved given old new
   pub since : AreLostSince old new roles spares before after

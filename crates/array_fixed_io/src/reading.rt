@@ -63,7 +63,7 @@ pub fn read<B: Bank>(still: &mut Still<B>, who: Who, at: u64, into: &mut [u8]) -
     ensures answered { IsAnswered (list_length still.old.parts.members.newest) (AsksRead at (length into.old / 512)) who still.old.parts.entries still.new.parts.entries (Read at (sectors_of into.new)) result }
     ensures holds { OnOk result (B.tells → IsFilledRight (moving_world (B.given still.old.parts.bank) (B.tape still.old.parts.bank) still.old) still.new.parts.entries
         → AreSectors (now (opening_list (moving_world (B.given still.old.parts.bank) (B.tape still.old.parts.bank) still.old)) still.old.parts.entries) at into.new) }
-    ensures first_read_refusal { OnErr result (into.new ≡ into.old) }
+    ensures unread { OnErr result (into.new ≡ into.old) }
     ensures unchanged { OnNoMemory result (still.new ≡ still.old) }
     ensures called { IsCalled B.tells (B.given still.old.parts.bank) (B.tape still.old.parts.bank) (B.tape still.new.parts.bank) (B.faults_of still.old.parts.bank) (B.faults_of still.new.parts.bank) still.old still.new }
     ensures whole { AreWhole still.new.parts.members → AreWhole still.old.parts.members }

@@ -1,4 +1,4 @@
--- A read of an array without an active reshape, from what `fetch` says of it; and why a read or a write isn't done.
+-- A read of an array without an active reshape, from what `read_listed` says of it; and why a read or a write isn't done.
 use Rattle.std.proofs.Common.{◌≡◌, ◌⊎◌, inl, inr, ℕ, ◌+◌, ◌/◌, ◌<◌, ◌≤◌, false, Option, List, [], ◌∷◌, ◌++◌, length, refl, sym, ◌∙◌, ap, subst}
 use Rattle.std.proofs.Math.Nat.{le_trans}
 use Rattle.array_fixed_invariant.specs.raid_types_Sectors.{Sector}

@@ -1,4 +1,4 @@
--- The steps of a pending resync, from what `mend` of `stripe_io` and `settle` of `sb_safe_updates` leave: what is kept, done or refused.
+-- The steps of a pending resync, from what `resync_rows` of `stripe_io` and `flush_and_mark` of `sb_safe_updates` leave: what is kept, done or refused.
 use Rattle.std.proofs.Common.{◌≡◌, ◌≢◌, inr, ℕ, ◌+◌, ◌-◌, ◌*◌, ◌<◌, min, false, Some, None, List, [], ◌∷◌, ◌++◌, length, refl, subst, arith}
 use Rattle.array_fixed_invariant.specs.raid_types_Sectors.{Sector}
 use Rattle.array_specs.specs.raid_types_the_Refusal.{Refusal}

@@ -1,4 +1,4 @@
--- A flush or a stop of an array without an active reshape, from what `settle` says of it.
+-- A flush or a stop of an array without an active reshape, from what `flush_and_mark` says of it.
 use Rattle.std.proofs.Common.{◌≡◌, inl, inr, ℕ, ◌<◌, ◌≤◌, ◌==◌, Bool, true, false, not, Option, Some, List, [], ◌∷◌, ◌++◌, length, drop, get_or, refl, sym, ◌∙◌, ap, subst, arith}
 use Rattle.std.specs.Prelude.{IsFalse, is_some}
 use Rattle.std.proofs.Math.Seq.{drop-append_seam}

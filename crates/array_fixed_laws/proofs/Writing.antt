@@ -1,4 +1,4 @@
--- A write of an array without an active reshape, from what `put` says of it.
+-- A write of an array without an active reshape, from what `write_listed` says of it.
 use Rattle.std.proofs.Common.{◌≡◌, ◌⊎◌, inl, inr, ℕ, ◌+◌, ◌*◌, ◌/◌, ◌<◌, ◌≤◌, ◌==◌, Bool, true, false, Option, List, [], ◌++◌, length, refl, sym, ◌∙◌, ap₂, subst, arith}
 use Rattle.std.specs.Prelude.{IsFalse}
 use Rattle.std.proofs.lemmas.Bool.Decides.{nat_tests}

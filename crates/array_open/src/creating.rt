@@ -37,7 +37,7 @@ pub fn create_array<B: Bank>(
     ensures refused { IfErr result (λ e. HasCreateCause B.tells (B.given bank) (present (B.given bank) (B.tape bank)) backup spec
         (B.faults_of bank) (B.faults_of e.0) e.1) }
     ensures untouched { IfErr result (λ e. (refusal : AnyRefusal) → create_refusal (B.given bank) backup spec ≡ Some refusal → e.0 ≡ bank) }
-    ensures first_write_refusal { IfErr result (λ e. (slot : ℕ) → e.1 ≡ IsRefused (IsInUse slot) → B.tells → OnlyFlushesAdded (B.tape bank) (B.tape e.0)) }
+    ensures unwritten { IfErr result (λ e. (slot : ℕ) → e.1 ≡ IsRefused (IsInUse slot) → B.tells → OnlyFlushesAdded (B.tape bank) (B.tape e.0)) }
     ensures tape { IfOk result (λ made. B.tells → OnlyBelow spec.shape.disks (B.tape bank) (B.tape made.parts.bank)) }
     ensures left_tape { IfErr result (λ e. B.tells → OnlyBelow spec.shape.disks (B.tape bank) (B.tape e.0)) }
     ensures given { IfOk result (λ made. B.given made.parts.bank ≡ B.given bank) }

@@ -38,7 +38,7 @@ pub fn read<B: Bank>(
     ensures answered { IsAnswered (list_length array.old.parts.members.newest) (AsksRead at (length into.old / 512)) who array.old.parts.entries array.new.parts.entries (Read at (sectors_of into.new)) result }
     ensures holds { OnOk result (B.tells → IsReadRight array.old (moving_world (B.given array.old.parts.bank) (B.tape array.old.parts.bank) array.old) (moving_world (B.given array.new.parts.bank) (B.tape array.new.parts.bank) array.new) array.new.parts.entries
         → AreSectors (now (opening_list (moving_world (B.given array.old.parts.bank) (B.tape array.old.parts.bank) array.old)) array.old.parts.entries) at into.new) }
-    ensures first_read_refusal { OnErr result (into.new ≡ into.old) }
+    ensures unread { OnErr result (into.new ≡ into.old) }
     ensures unchanged { OnNoMemory result (array.new ≡ array.old) }
     ensures called { IsCalled B.tells (B.given array.old.parts.bank) (B.tape array.old.parts.bank) (B.tape array.new.parts.bank) (B.faults_of array.old.parts.bank) (B.faults_of array.new.parts.bank) array.old array.new }
     ensures tape { is_reshaping array.old.parts.members.newest ≡ false → AreWhole array.new.parts.members → B.tells → B.tape array.new.parts.bank ≡ B.tape array.old.parts.bank }

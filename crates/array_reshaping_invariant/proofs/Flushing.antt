@@ -1,4 +1,4 @@
--- A flush or a stop of an array in a reshape, from what `settle` leaves of its members, and one that is refused for missing members.
+-- A flush or a stop of an array in a reshape, from what `flush_and_mark` leaves of its members, and one that is refused for missing members.
 use Rattle.std.proofs.Common.{◌≡◌, ◌⊎◌, inl, inr, ℕ, ◌<◌, ◌≤◌, ◌==◌, ◌&&◌, Bool, true, false, not, Option, Some, None, List, [], ◌∷◌, ◌++◌, length, refl, sym, ◌∙◌, ap, subst}
 use Rattle.std.specs.Prelude.{IsFalse, IfSome, IsSome, is_some, slice_index_or, ⊤}
 use Rattle.history_invariant_laws.specs.raid_types_Sectors.{Sector}

@@ -57,7 +57,7 @@ fn read_some<B: Bank>(
     ensures answered { IsAnswered (list_length moving.old.parts.members.newest) (AsksRead at (length into.old / 512)) who moving.old.parts.entries moving.new.parts.entries (Read at (sectors_of into.new)) result }
     ensures holds { OnOk result (B.tells → IsReliable (moving_world (B.given moving.new.parts.bank) (B.tape moving.new.parts.bank) moving.new) moving.new.parts.entries
         → AreSectors (now (opening_list (moving_world (B.given moving.old.parts.bank) (B.tape moving.old.parts.bank) moving.old)) moving.old.parts.entries) at into.new) }
-    ensures first_read_refusal { OnErr result (into.new ≡ into.old) }
+    ensures unread { OnErr result (into.new ≡ into.old) }
     ensures memory { OnNoMemory result ⊥ }
     ensures called { IsCalled B.tells (B.given moving.old.parts.bank) (B.tape moving.old.parts.bank) (B.tape moving.new.parts.bank) (B.faults_of moving.old.parts.bank) (B.faults_of moving.new.parts.bank) moving.old moving.new }
     ensures others { B.tells → AreOthersPresent (present (B.given moving.old.parts.bank) (B.tape moving.old.parts.bank)) (present (B.given moving.old.parts.bank) (B.tape moving.new.parts.bank)) }
@@ -116,7 +116,7 @@ pub fn read<B: Bank>(
     ensures answered { IsAnswered (list_length moving.old.parts.members.newest) (AsksRead at (length into.old / 512)) who moving.old.parts.entries moving.new.parts.entries (Read at (sectors_of into.new)) result }
     ensures holds { OnOk result (B.tells → IsReliable (moving_world (B.given moving.new.parts.bank) (B.tape moving.new.parts.bank) moving.new) moving.new.parts.entries
         → AreSectors (now (opening_list (moving_world (B.given moving.old.parts.bank) (B.tape moving.old.parts.bank) moving.old)) moving.old.parts.entries) at into.new) }
-    ensures first_read_refusal { OnErr result (into.new ≡ into.old) }
+    ensures unread { OnErr result (into.new ≡ into.old) }
     ensures unchanged { OnNoMemory result (moving.new ≡ moving.old) }
     ensures called { IsCalled B.tells (B.given moving.old.parts.bank) (B.tape moving.old.parts.bank) (B.tape moving.new.parts.bank) (B.faults_of moving.old.parts.bank) (B.faults_of moving.new.parts.bank) moving.old moving.new }
     ensures others { B.tells → AreOthersPresent (present (B.given moving.old.parts.bank) (B.tape moving.old.parts.bank)) (present (B.given moving.old.parts.bank) (B.tape moving.new.parts.bank)) }

@@ -1,4 +1,4 @@
--- The steps of a pending resync of an array in a reshape, from what `resync_list` of `stripe_region_resync` and `settle` of `sb_safe_updates` leave: what is kept, done or refused.
+-- The steps of a pending resync of an array in a reshape, from what `resync_list` of `stripe_region_resync` and `flush_and_mark` of `sb_safe_updates` leave: what is kept, done or refused.
 use Rattle.std.proofs.Common.{◌≡◌, ◌≢◌, inl, inr, ℕ, ◌+◌, ◌-◌, ◌/◌, ◌^◌, ◌<◌, ◌≤◌, Bool, true, false, Option, Some, None, unwrap_or, List, [], ◌∷◌, ◌++◌, length, refl, sym, ◌∙◌, ap, subst, arith}
 use Rattle.std.specs.Prelude.{IsSome, MatchOption}
 use Rattle.std.proofs.Math.Nat.{div-le_self}

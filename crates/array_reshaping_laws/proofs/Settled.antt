@@ -1,4 +1,4 @@
--- A flush of an array in a reshape, from what `settle` says of it.
+-- A flush of an array in a reshape, from what `flush_and_mark` says of it.
 use Rattle.std.proofs.Common.{◌≡◌, inl, inr, ℕ, Option, sym, ap, subst}
 use Rattle.array_reshaping_resync_laws.specs.history_the_Event.{Event}
 use Rattle.array_reshaping_resync_laws.specs.history_Flat.{length_after, limit_after}

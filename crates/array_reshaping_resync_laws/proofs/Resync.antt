@@ -1,4 +1,4 @@
--- Steps of the resync of an array in a reshape: a stripe is mended, from what `resync_list` leaves, or isn't; and the resync ends, from what `settle` leaves, or is refused.
+-- Steps of the resync of an array in a reshape: a stripe is mended, from what `resync_list` leaves, or isn't; and the resync ends, from what `flush_and_mark` leaves, or is refused.
 use Rattle.std.proofs.Common.{◌≡◌, ◌≢◌, inl, inr, ℕ, ◌+◌, ◌<◌, ◌≤◌, ◌==◌, ◌&&◌, nat_le, Bool, true, false, Option, Some, None, List, [], ◌∷◌, ◌++◌, length, refl, sym, ◌∙◌, ap, subst, arith, append-nil}
 use Rattle.std.specs.Prelude.{IsFalse, IfSome, is_some, ⊤}
 use Rattle.std.specs.List.{list_any}

@@ -22,13 +22,13 @@ fn is_kept(pick: Pick, place: usize) -> bool
 }
 
 // Notes an operation that stands before this mark, where it is a flush.
-fn note(marks: &mut Vec<usize>, operation: &Operation, set_clean_mark: usize)
+fn note(marks: &mut Vec<usize>, operation: &Operation, mark: usize)
     requires { (t : ℕ) → operation.now ≡ Flush t → t < length marks.old.items }
-    ensures { marks.new.items ≡ noted operation.now set_clean_mark marks.old.items }
+    ensures { marks.new.items ≡ noted operation.now mark marks.old.items }
 {
     match operation {
         Operation::Write(_, _, _) => {}
-        Operation::Flush(slot) => marks[*slot as usize] = set_clean_mark,
+        Operation::Flush(slot) => marks[*slot as usize] = mark,
     }
 }
 

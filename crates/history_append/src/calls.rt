@@ -38,7 +38,7 @@ pub fn append_entry(epoch: &mut Epoch, who: Who, end: u64, event: Event)
     ensures last { epoch.new.last ≡ end }
 {
     epoch.last = end;
-    epoch.entries.write_listed(Entry {
+    epoch.entries.put(Entry {
         caller: who.caller,
         number: who.number,
         end,

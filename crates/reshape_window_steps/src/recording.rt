@@ -82,9 +82,9 @@ fn move_position<B: Bank>(members: &mut Members, bank: &mut B, span: &Span) -> u
     ensures given { B.given bank.new ≡ B.given bank.old }
     ensures counts { NeverFalls (B.faults_of bank.old) (B.faults_of bank.new) }
 {
-    let write_listed = put_position(members, bank, span);
+    let put = put_position(members, bank, span);
     let named = record_missing(members, bank);
-    write_listed | named
+    put | named
 }
 
 /// Records the next window, whose rows are copied: flushes the slots that hold roles, and moves the position behind it. What is

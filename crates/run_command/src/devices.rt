@@ -51,7 +51,7 @@ pub fn run_over_devices<
     ensures bad_words { result.status ≡ 2 → command_in (map string_bytes words.now) ≡ None }
     ensures no_command { command_in (map string_bytes words.now) ≡ None → (result.status ≡ 2) ⊎ ((result.status ≡ 6) × (is_parsed (map string_bytes words.now) ≡ true)) }
     ensures bad_line { result.status ≡ 3 → IsScriptBad (demo_in (map string_bytes words.now)) S.tells (S.left script.old) (S.left script.new) result.bad_line }
-    ensures first_read_refusal { IfSome (demo_in (map string_bytes words.now)) (λ size. script.new ≡ script.old) }
+    ensures unread { IfSome (demo_in (map string_bytes words.now)) (λ size. script.new ≡ script.old) }
     ensures read_fault { result.status ≡ 4 → HasRisen (S.faults_of script.old) (S.faults_of script.new) }
     ensures write_fault { result.status ≡ 5 → HasRisen (K.faults_of out.old) (K.faults_of out.new) }
     ensures performed { IsAfterLines result.status → IsScriptPerformed (G.post (wanted_by hook)) (demo_in (map string_bytes words.now)) S.tells (S.left script.old) (S.left script.new) (setting_of D.tells (given_of D.start bank) (tape_in D.log bank) (tape_in D.log result.bank) (backup_in (map string_bytes words.now)) (faults_in bank) (faults_in result.bank)) (sunk_of K.tells (K.taken out.old) (K.taken out.new) result.shown) result.status result.epochs.items result.lines.items }

@@ -78,11 +78,11 @@ fn halt<B: Bank>(state: State<B>, backup: Option<u32>) -> (B, Vec<Epoch>)
 }
 
 // Sets the last mark of an epoch.
-fn set_last(epoch: &mut Epoch, set_clean_mark: u64)
+fn set_last(epoch: &mut Epoch, mark: u64)
     ensures same { history_of epoch.new ≡ history_of epoch.old }
-    ensures last { epoch.new.last ≡ set_clean_mark }
+    ensures last { epoch.new.last ≡ mark }
 {
-    epoch.last = set_clean_mark;
+    epoch.last = mark;
 }
 
 // The first mark of the epoch behind this one, or this one where it is the last.
@@ -102,8 +102,8 @@ fn end_epochs(epochs: &mut Vec<Epoch>, ops: u64)
     ensures ended { AreEndedAt ops epochs.new.items }
 {
     for i in 0..epochs.len() {
-        let set_clean_mark = mark_behind(epochs.as_slice(), i, ops);
-        set_last(&mut epochs[i], set_clean_mark);
+        let mark = mark_behind(epochs.as_slice(), i, ops);
+        set_last(&mut epochs[i], mark);
     }
 }
 
@@ -232,7 +232,7 @@ pub fn run_script<
     ensures status { result.status ≤ 6 }
     ensures good_words { result.status ≢ 2 }
     ensures bad_line { result.status ≡ 3 → IsScriptBad demo S.tells (S.left script.old) (S.left script.new) result.bad_line }
-    ensures first_read_refusal { IfSome demo (λ size. script.new ≡ script.old) }
+    ensures unread { IfSome demo (λ size. script.new ≡ script.old) }
     ensures read_fault { result.status ≡ 4 → HasRisen (S.faults_of script.old) (S.faults_of script.new) }
     ensures write_fault { result.status ≡ 5 → HasRisen (K.faults_of out.old) (K.faults_of out.new) }
     ensures performed { IsAfterLines result.status → IsScriptPerformed (G.post (wanted_by hook.now)) demo S.tells (S.left script.old) (S.left script.new) (setting_of B.tells (B.given bank) (B.tape bank) (B.tape result.bank) backup (B.faults_of bank) (B.faults_of result.bank)) (sunk_of K.tells (K.taken out.old) (K.taken out.new) result.shown) result.status result.epochs.items result.lines.items }

@@ -74,7 +74,7 @@ pub fn script_text<S: Source>(
     requires few { IfSome demo IsDemoSize }
     ensures text { IfOk result (λ text. IsTextFor demo S.tells (S.left source.old) (S.left source.new) text.items) }
     ensures cause { IfErr result (IsCaused (S.faults_of source.old) (S.faults_of source.new)) }
-    ensures first_read_refusal { IfSome demo (λ size. source.new ≡ source.old) }
+    ensures unread { IfSome demo (λ size. source.new ≡ source.old) }
     ensures never_falls { S.faults_of source.old ≤ S.faults_of source.new }
 {
     let Some(size) = demo else {

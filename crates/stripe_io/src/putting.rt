@@ -333,7 +333,7 @@ pub fn write_listed<B: Bank>(
     ensures first { MatchOption result.refusal ⊤ (λ refusal. write_refusal shape.now synced members.new ≡ Some refusal) }
     ensures torn { result.begun ≡ true → MatchOption result.refusal ⊤ (LacksTooMany shape.now members.new) }
     ensures grows { Grows B.tells (B.tape bank.old) (B.tape bank.new) }
-    ensures write_listed { result.refusal ≡ None → B.tells → (list list' : ℕ → Sector) → IsWritten list list' first from.now
+    ensures put { result.refusal ≡ None → B.tells → (list list' : ℕ → Sector) → IsWritten list list' first from.now
         → DataStandsAmong shape.now (IsTouched shape.now first count) members.old (present (B.given bank.old) (B.tape bank.old)) list → DataStandsAmong shape.now (IsTouched shape.now first count) members.new (present (B.given bank.old) (B.tape bank.new)) list' }
     ensures others { B.tells → AreOtherRowsKept (IsTouched shape.now first count) (reading_of members.new) (present (B.given bank.old) (B.tape bank.old)) (present (B.given bank.old) (B.tape bank.new)) }
     ensures good { result.refusal ≡ None → B.tells → (list list' : ℕ → Sector) → IsWritten list list' first from.now → AreBytes from.now

@@ -92,7 +92,7 @@ fn read_stretches<B: Bank>(
     ensures kept { AreWhole members.new → members.new ≡ members.old }
     ensures from { first ≤ result }
     ensures within { result ≤ first + length into.old / 512 }
-    ensures first_read_refusal { result < first + length into.old / 512 → (x : ℕ) × (result ≤ x) × (x < first + length into.old / 512) × IsLacked relied members.new x }
+    ensures unread { result < first + length into.old / 512 → (x : ℕ) × (result ≤ x) × (x < first + length into.old / 512) × IsLacked relied members.new x }
     ensures holds { B.tells → (hidden : Option Span) → (list : ℕ → Sector) → ListStandsIn (IsShapeOf members.old.newest first (first + length into.old / 512)) hidden members.old (present (B.given bank.old) (B.tape bank.old)) list
         → AreWhole members.new ⊎ RowsStandIn (IsShapeOf members.old.newest first (first + length into.old / 512)) hidden relied members.old (present (B.given bank.old) (B.tape bank.old)) list
         → (i : ℕ) → first + i < result → IsShown hidden members.old.newest (first + i) → sector_of into.new i ≡ list (first + i) }

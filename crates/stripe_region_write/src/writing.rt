@@ -65,7 +65,7 @@ fn read_runs<B: Bank>(
     ensures moved { IsMoved (B.given bank.old) members.old members.new }
     ensures lost { (lost : ℕ) × (members.new ≡ members_without lost members.old) }
     ensures failed { HaveFailedSince members.old members.new 0 (B.faults_of bank.old) (B.faults_of bank.new) }
-    ensures first_read_refusal { result ≡ false → ((write_refusal low.now.shape low.now.synced members.new ≡ None) × (write_refusal high.now.shape high.now.synced members.new ≡ None)) → ⊥ }
+    ensures unread { result ≡ false → ((write_refusal low.now.shape low.now.synced members.new ≡ None) × (write_refusal high.now.shape high.now.synced members.new ≡ None)) → ⊥ }
     ensures low { result ≡ true → B.tells → AreRowsRead low.now.shape low.now.synced members.old members.new (present (B.given bank.old) (B.tape bank.old)) rows.new.items buffer.new.items }
     ensures high { result ≡ true → B.tells → AreRowsRead high.now.shape high.now.synced members.old members.new (present (B.given bank.old) (B.tape bank.old)) far_rows.new.items far_buffer.new.items }
     ensures low_rows { result ≡ true → AreRowsOf low.now members.old.newest.size rows.new.items }
@@ -282,7 +282,7 @@ pub fn write_list<B: Bank>(
     ensures torn_rows { MatchOption result.refusal ⊤ (λ refusal. B.tells → AreOtherRowsKept (IsTornTouched members.old.newest first (first + length from.now / 512) members.new) (reading_of members.new)
         (present (B.given bank.old) (B.tape bank.old)) (present (B.given bank.old) (B.tape bank.new))) }
     ensures grows { Grows B.tells (B.tape bank.old) (B.tape bank.new) }
-    ensures write_listed { result.refusal ≡ None → B.tells → (among : Shape → Bool) → (hidden : Option Span) → (list list' : ℕ → Sector) → IsWritten list list' first from.now
+    ensures put { result.refusal ≡ None → B.tells → (among : Shape → Bool) → (hidden : Option Span) → (list list' : ℕ → Sector) → IsWritten list list' first from.now
         → ListStandsIn (λ s. among s ≡ true) hidden members.old (present (B.given bank.old) (B.tape bank.old)) list
         → ListStandsIn (λ s. among s ≡ true) hidden members.new (present (B.given bank.old) (B.tape bank.new)) list' }
     ensures tail { result.refusal ≡ None → B.tells → (list list' : ℕ → Sector) → IsWritten list list' first from.now

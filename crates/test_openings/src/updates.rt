@@ -36,7 +36,7 @@ type Said = (u64, u64, [Role; 4], u32);
 #[derive(Clone, Copy)]
 struct Case {
     entries: [u16; 5],
-    set_clean_mark: u64,
+    mark: u64,
     first: (u64, u64),
     give: Give,
     former: Said,
@@ -50,7 +50,7 @@ const CASES: [Case; 3] = [
     // the array is marked dirty
     Case {
         entries: [3, 2, 1, 0, 0xffff],
-        set_clean_mark: CLEAN,
+        mark: CLEAN,
         first: (7, CLEAN),
         give: Give::Same,
         former: (7, CLEAN, [D, C, B, A], 16),
@@ -67,7 +67,7 @@ const CASES: [Case; 3] = [
     // slot 0 is one event behind, and says that the array is clean; where it is lost in catching up, the update names it
     Case {
         entries: [3, 2, 1, 0, 0xffff],
-        set_clean_mark: DIRTY,
+        mark: DIRTY,
         first: (6, CLEAN),
         give: Give::Same,
         former: (7, DIRTY, [D, C, B, A], 16),
@@ -84,7 +84,7 @@ const CASES: [Case; 3] = [
     // role 3 is missing, and slots 3 and 4 are spares; slot 4 is written first
     Case {
         entries: [2, 1, 0, 0xffff, 0xffff],
-        set_clean_mark: CLEAN,
+        mark: CLEAN,
         first: (7, CLEAN),
         give: Give::Role {
             role: 3,
@@ -142,11 +142,11 @@ fn answer_at(
     rt: &impl Abort,
     alloc: Global,
     bank: &MemoryBank,
-    set_clean_mark: u64,
+    mark: u64,
     pick: Pick,
 ) -> Result<Result<Members, Fault>, Fail> {
-    assert!(rt; set_clean_mark <= bank.ops());
-    let mut image = bank.image(alloc, set_clean_mark, pick, 0)?;
+    assert!(rt; mark <= bank.ops());
+    let mut image = bank.image(alloc, mark, pick, 0)?;
     Ok(said_of(rt, alloc, &mut image))
 }
 
@@ -161,14 +161,14 @@ fn walk(
     last: Said,
 ) -> Result<(), Fail> {
     let end = bank.ops();
-    for set_clean_mark in 0..=end {
+    for mark in 0..=end {
         for pick in PICKS {
-            let answer = answer_at(rt, alloc, bank, set_clean_mark, pick)?;
+            let answer = answer_at(rt, alloc, bank, mark, pick)?;
             let is_other = says(rt, &answer, former)
                 || says(rt, &answer, planned)
                 || says(rt, &answer, early);
             assert!(rt;
-                says(rt, &answer, last) || set_clean_mark < end && is_other,
+                says(rt, &answer, last) || mark < end && is_other,
                 "at {mark}"
             );
         }
@@ -243,7 +243,7 @@ fn devices(entries: [u16; 5], resync_offset: u64, first: (u64, u64)) -> [Sb; 5] 
 fn try_failing(rt: &impl Abort, alloc: Global, case: &Case, number: u64) -> Result<(), Fail>
     requires { number < 100 }
 {
-    let superblocks = devices(case.entries, case.set_clean_mark, case.first);
+    let superblocks = devices(case.entries, case.mark, case.first);
     let mut bank = bank_of(rt, alloc, &superblocks, 24, 64, &[5 + number])?;
     let mut members = said_of(rt, alloc, &mut bank).expect(rt, "members");
     assert!(rt; said_by(rt, &members) == case.former);

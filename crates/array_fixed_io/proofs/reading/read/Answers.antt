@@ -175,14 +175,14 @@ invariant_of-still-in-Some-refusal g c =
     let given = g.B.Bank.given a.bank in
     let scope = scope_in given a.epoch.uuid a.epoch.given a.backup in
     let number : c.args.who.number ≡ next_number c.args.who.caller a.epoch.entries.items = c.requires.next ∙ ap (λ p. next_number c.args.who.caller p.parts.entries) (sym c.still.view_is) in
-    let did = c.fetch-fetched.ensures in
-    let m = c.fetch-fetched.new.members in
+    let did = c.read_listed-fetched.ensures in
+    let m = c.read_listed-fetched.new.members in
     let tape = g.B.Bank.tape a.bank in
-    let tape' = g.B.Bank.tape c.fetch-fetched.new.bank in
+    let tape' = g.B.Bank.tape c.read_listed-fetched.new.bank in
     let before = g.B.Bank.faults_of a.bank in
-    let after = g.B.Bank.faults_of c.fetch-fetched.new.bank in
+    let after = g.B.Bank.faults_of c.read_listed-fetched.new.bank in
     let roles = c.newly_unassigned-roles.result in
-    let spares = c.fetch-fetched.result.spares in
+    let spares = c.read_listed-fetched.result.spares in
     let refusal = c.in-Some-refusal.refusal in
     let end = c.ops-end-2.result in
     let count = length c.args.into.now / 512 in
@@ -193,13 +193,13 @@ invariant_of-still-in-Some-refusal g c =
     (ap (λ (s : Shape). s.disks) c.shape_in-shape.ensures ∙ sym (count-still a.members.newest here.still)) c.unassigned_roles-before.ensures c.newly_unassigned-roles.ensures in
     let named : IsNamedStill g.B.Bank.tells given tape tape' a.members m roles spares before after =
     record { moved = did.moved; since = since; grows = did.grows; clean = did.clean; rise = risen-told did.rise; others = did.others; safe = did.safe } in
-    let why = some-of (IsUnread c.shape_in-shape.result c.synced_rows-mended.result c.args.at asked m) c.fetch-fetched.result.refusal refusal c.in-Some-refusal.is did.refused in
+    let why = some-of (IsUnread c.shape_in-shape.result c.synced_rows-mended.result c.args.at asked m) c.read_listed-fetched.result.refusal refusal c.in-Some-refusal.is did.refused in
     let inside : c.args.at + count ≤ list_length m.newest = (let long = (rows-moved given a.members m did.moved).long in let below = c.in_default.ensures.why.0 in let most = visible-within (list_length a.members.newest) a.limit in omega (arith, long, below, most)) in
     let unread : IsUnread (shape_of m.newest) (synced_rows a.work.resync m) c.args.at count m refusal =
     subst (λ (s : Shape). IsUnread s (synced_rows a.work.resync m) c.args.at count m refusal) (c.shape_in-shape.ensures ∙ sym did.moved.shape)
     (subst (λ (n : ℕ). IsUnread c.shape_in-shape.result n c.args.at count m refusal) (c.synced_rows-mended.ensures.rows ∙ sym (mended-moved did.moved a.work.resync))
     (subst (λ (n : ℕ). IsUnread c.shape_in-shape.result c.synced_rows-mended.result c.args.at n m refusal) same why)) in
-    with-buffers was.rows_fit (let len = (with_items a.buffer c.fetch-fetched.new.scratch).ok.0 in let ok = a.buffer.ok.0 in let fits = was.buffer_fits in omega (arith, len, ok, fits))
+    with-buffers was.rows_fit (let len = (with_items a.buffer c.read_listed-fetched.new.scratch).ok.0 in let ok = a.buffer.ok.0 in let fits = was.buffer_fits in omega (arith, len, ok, fits))
     (ready (entries_of c.args.who end (losses_of roles spares ++ Refused refusal ∷ [])) was (rows-moved given a.members m did.moved)
     (refused-stands g.B.Bank.tells given tape tape' scope a.epoch.first a.epoch.entries.items a.members m a.work (still_left a.work a.members a.ahead) (still_left a.work m a.ahead) c.args.who end roles spares before after refusal
     was.kept (without-left given a.members here.placed here.unlost does) (begins-going a.epoch.entries.items c.args.who number) (not_254 c.args.who.caller c.requires.caller) c.ops-end-2.ensures.count named
@@ -216,14 +216,14 @@ returns-in-Some-refusal-clause-answered g c =
     let was = c.still.invariant in
     let a = c.still.inside in
     let number : c.args.who.number ≡ next_number c.args.who.caller a.epoch.entries.items = c.requires.next ∙ ap (λ p. next_number c.args.who.caller p.parts.entries) (sym c.still.view_is) in
-    let m = c.fetch-fetched.new.members in
+    let m = c.read_listed-fetched.new.members in
     let roles = c.newly_unassigned-roles.result in
-    let spares = c.fetch-fetched.result.spares in
+    let spares = c.read_listed-fetched.result.spares in
     let refusal = c.in-Some-refusal.refusal in
     let end = c.ops-end-2.result in
     let count = length c.args.into.now / 512 in
     let asked = length c.as_mut_slice.result.now / 512 in
-    let why = some-of (IsUnread c.shape_in-shape.result c.synced_rows-mended.result c.args.at asked m) c.fetch-fetched.result.refusal refusal c.in-Some-refusal.is c.fetch-fetched.ensures.refused in
+    let why = some-of (IsUnread c.shape_in-shape.result c.synced_rows-mended.result c.args.at asked m) c.read_listed-fetched.result.refusal refusal c.in-Some-refusal.is c.read_listed-fetched.ensures.refused in
     rw (← c.still.view_is) (lost_reply (list_length a.members.newest) a.limit a.epoch.entries.items was.sized was.limited (AsksRead c.args.at count) c.args.who (c.args.at + count)
     c.append_after_losses.new.epoch.entries.items end roles spares refusal (read_kind c.args.at count) c.in_default.ensures.why.0 (unread-of c.shape_in-shape.result c.synced_rows-mended.result c.args.at asked m refusal why)
     (c.append_after_losses.ensures.items ∙ ap (λ (l : List Entry). l ++ entries_of c.args.who end (losses_of roles spares ++ Refused refusal ∷ [])) c.make_room.ensures.items) number)
@@ -234,18 +234,18 @@ returns-in-Some-refusal-clause-called g c =
     let here = was.kept.members_are in
     let a = c.still.inside in
     let given = g.B.Bank.given a.bank in
-    let did = c.fetch-fetched.ensures in
-    let m = c.fetch-fetched.new.members in
+    let did = c.read_listed-fetched.ensures in
+    let m = c.read_listed-fetched.new.members in
     let before = g.B.Bank.faults_of a.bank in
-    let after = g.B.Bank.faults_of c.fetch-fetched.new.bank in
+    let after = g.B.Bank.faults_of c.read_listed-fetched.new.bank in
     let roles = c.newly_unassigned-roles.result in
-    let spares = c.fetch-fetched.result.spares in
+    let spares = c.read_listed-fetched.result.spares in
     let end = c.ops-end-2.result in
     let event = Refused c.in-Some-refusal.refusal in
     let since = lost-since given a.members m c.shape_in-shape.result.disks c.unassigned_roles-before.result roles spares before after here.placed did.moved did.failed
     (ap (λ (s : Shape). s.disks) c.shape_in-shape.ensures ∙ sym (count-still a.members.newest here.still)) c.unassigned_roles-before.ensures c.newly_unassigned-roles.ensures in
     rw (← c.still.view_is) (called did.grows did.moved
-    (ended-behind (g.B.Bank.tape c.fetch-fetched.new.bank) c.append_after_losses.new.epoch.first c.make_room.new.self.items c.args.who end (losses_of roles spares) event c.append_after_losses.ensures.items c.ops-end-2.ensures.count)
+    (ended-behind (g.B.Bank.tape c.read_listed-fetched.new.bank) c.append_after_losses.new.epoch.first c.make_room.new.self.items c.args.who end (losses_of roles spares) event c.append_after_losses.ensures.items c.ops-end-2.ensures.count)
     (losses-behind a.members m before after a.epoch.entries.items c.make_room.new.self.items c.append_after_losses.new.epoch.entries.items c.args.who end roles spares event since tt c.make_room.ensures.items c.append_after_losses.ensures.items)
     did.counts
     (record { uuid = c.append_after_losses.ensures.uuid; given = c.append_after_losses.ensures.given; first = c.append_after_losses.ensures.first; backup = refl; work = refl; ahead = refl; limit = refl })
@@ -254,12 +254,12 @@ returns-in-Some-refusal-clause-called g c =
 pub returns-in-Some-refusal-clause-caused : goal.returns-in-Some-refusal-clause-caused
 returns-in-Some-refusal-clause-caused g c =
     let a = c.still.inside in
-    let m = c.fetch-fetched.new.members in
+    let m = c.read_listed-fetched.new.members in
     let refusal = c.in-Some-refusal.refusal in
     let count = length c.args.into.now / 512 in
     let asked = length c.as_mut_slice.result.now / 512 in
     let same : asked ≡ count = asked-is c.in-Ok.bytes.items c.as_mut_slice.result.now c.args.into.now c.in-Ok.ensures.len c.as_mut_slice.ensures.value in
-    let why = some-of (IsUnread c.shape_in-shape.result c.synced_rows-mended.result c.args.at asked m) c.fetch-fetched.result.refusal refusal c.in-Some-refusal.is c.fetch-fetched.ensures.refused in
+    let why = some-of (IsUnread c.shape_in-shape.result c.synced_rows-mended.result c.args.at asked m) c.read_listed-fetched.result.refusal refusal c.in-Some-refusal.is c.read_listed-fetched.ensures.refused in
     rw (← c.still.view_is) (refused-for (visible_size a.members a.limit) (c.args.at + count) (IsUnread (shape_of a.members.newest) (synced_rows a.work.resync a.members) c.args.at count) a.members m refusal
     (unread-of c.shape_in-shape.result c.synced_rows-mended.result c.args.at asked m refusal why) c.in_default.ensures.why.0
     (subst (λ (s : Shape). IsUnread s (synced_rows a.work.resync a.members) c.args.at count m refusal) c.shape_in-shape.ensures
@@ -268,28 +268,28 @@ returns-in-Some-refusal-clause-caused g c =
 pub returns-in-Some-refusal-clause-first : goal.returns-in-Some-refusal-clause-first
 returns-in-Some-refusal-clause-first g c =
     let a = c.still.inside in
-    let m = c.fetch-fetched.new.members in
+    let m = c.read_listed-fetched.new.members in
     let refusal = c.in-Some-refusal.refusal in
     let count = length c.args.into.now / 512 in
     let asked = length c.as_mut_slice.result.now / 512 in
     let mended = synced_rows a.work.resync a.members in
     let same : asked ≡ count = asked-is c.in-Ok.bytes.items c.as_mut_slice.result.now c.args.into.now c.in-Ok.ensures.len c.as_mut_slice.ensures.value in
-    let why = some-of (λ r. read_refusal c.shape_in-shape.result c.synced_rows-mended.result c.args.at asked m ≡ Some r) c.fetch-fetched.result.refusal refusal c.in-Some-refusal.is c.fetch-fetched.ensures.first in
+    let why = some-of (λ r. read_refusal c.shape_in-shape.result c.synced_rows-mended.result c.args.at asked m ≡ Some r) c.read_listed-fetched.result.refusal refusal c.in-Some-refusal.is c.read_listed-fetched.ensures.first in
     rw (← c.still.view_is) (call-within (visible_size a.members a.limit) (c.args.at + count) (read_refusal (shape_of a.members.newest) mended c.args.at count m) c.in_default.ensures.why.0
     ∙ subst (λ (s : Shape). read_refusal s mended c.args.at count m ≡ Some refusal) c.shape_in-shape.ensures
     (subst (λ (n : ℕ). read_refusal c.shape_in-shape.result n c.args.at count m ≡ Some refusal) c.synced_rows-mended.ensures.rows (subst (λ (n : ℕ). read_refusal c.shape_in-shape.result c.synced_rows-mended.result c.args.at n m ≡ Some refusal) same why)))
 
 pub returns-in-Some-refusal-clause-tape : goal.returns-in-Some-refusal-clause-tape
-returns-in-Some-refusal-clause-tape g c = λ whole t. c.fetch-fetched.ensures.tape whole t ∙ ap (λ p. g.B.Bank.tape p.parts.bank) c.still.view_is
+returns-in-Some-refusal-clause-tape g c = λ whole t. c.read_listed-fetched.ensures.tape whole t ∙ ap (λ p. g.B.Bank.tape p.parts.bank) c.still.view_is
 
 pub returns-in-Some-refusal-clause-others : goal.returns-in-Some-refusal-clause-others
-returns-in-Some-refusal-clause-others g c = subst (λ p. g.B.Bank.tells → AreOthersPresent (present (g.B.Bank.given p.parts.bank) (g.B.Bank.tape p.parts.bank)) (present (g.B.Bank.given p.parts.bank) (g.B.Bank.tape c.fetch-fetched.new.bank))) c.still.view_is c.fetch-fetched.ensures.others
+returns-in-Some-refusal-clause-others g c = subst (λ p. g.B.Bank.tells → AreOthersPresent (present (g.B.Bank.given p.parts.bank) (g.B.Bank.tape p.parts.bank)) (present (g.B.Bank.given p.parts.bank) (g.B.Bank.tape c.read_listed-fetched.new.bank))) c.still.view_is c.read_listed-fetched.ensures.others
 
 pub returns-in-Some-refusal-clause-failed : goal.returns-in-Some-refusal-clause-failed
-returns-in-Some-refusal-clause-failed g c = subst (λ p. HaveRolesFailed p.parts.members c.fetch-fetched.new.members (g.B.Bank.faults_of p.parts.bank) (g.B.Bank.faults_of c.fetch-fetched.new.bank)) c.still.view_is c.fetch-fetched.ensures.failed.roles
+returns-in-Some-refusal-clause-failed g c = subst (λ p. HaveRolesFailed p.parts.members c.read_listed-fetched.new.members (g.B.Bank.faults_of p.parts.bank) (g.B.Bank.faults_of c.read_listed-fetched.new.bank)) c.still.view_is c.read_listed-fetched.ensures.failed.roles
 
 pub returns-in-Some-refusal-clause-whole : goal.returns-in-Some-refusal-clause-whole
-returns-in-Some-refusal-clause-whole g c = subst (λ p. AreWhole c.fetch-fetched.new.members → AreWhole p.parts.members) c.still.view_is c.fetch-fetched.ensures.moved.whole
+returns-in-Some-refusal-clause-whole g c = subst (λ p. AreWhole c.read_listed-fetched.new.members → AreWhole p.parts.members) c.still.view_is c.read_listed-fetched.ensures.moved.whole
 
 -- ---- done
 
@@ -301,19 +301,19 @@ invariant_of-still-2 g c =
     let given = g.B.Bank.given a.bank in
     let scope = scope_in given a.epoch.uuid a.epoch.given a.backup in
     let number : c.args.who.number ≡ next_number c.args.who.caller a.epoch.entries.items = c.requires.next ∙ ap (λ p. next_number c.args.who.caller p.parts.entries) (sym c.still.view_is) in
-    let did = c.fetch-fetched.ensures in
-    let m = c.fetch-fetched.new.members in
+    let did = c.read_listed-fetched.ensures in
+    let m = c.read_listed-fetched.new.members in
     let tape = g.B.Bank.tape a.bank in
-    let tape' = g.B.Bank.tape c.fetch-fetched.new.bank in
+    let tape' = g.B.Bank.tape c.read_listed-fetched.new.bank in
     let before = g.B.Bank.faults_of a.bank in
-    let after = g.B.Bank.faults_of c.fetch-fetched.new.bank in
+    let after = g.B.Bank.faults_of c.read_listed-fetched.new.bank in
     let roles = c.newly_unassigned-roles.result in
-    let spares = c.fetch-fetched.result.spares in
-    let bytes = c.fetch-fetched.new.into in
+    let spares = c.read_listed-fetched.result.spares in
+    let bytes = c.read_listed-fetched.new.into in
     let end = c.ops-end-2.result in
-    let len : length bytes ≡ length c.args.into.now = c.fetch-fetched.auto.into ∙ ap (λ (l : List ℕ). length l) c.as_mut_slice.ensures.value ∙ c.in-Ok.ensures.len in
-    let same : length bytes / 512 ≡ length c.as_mut_slice.result.now / 512 = ap (λ (n : ℕ). n / 512) c.fetch-fetched.auto.into in
-    let whole = written-whole c.in-Ok.bytes.len c.in-Ok.bytes.items bytes (c.fetch-fetched.auto.into ∙ ap (λ (l : List ℕ). length l) c.as_mut_slice.ensures.value) c.in-Ok.bytes.ok.0 in
+    let len : length bytes ≡ length c.args.into.now = c.read_listed-fetched.auto.into ∙ ap (λ (l : List ℕ). length l) c.as_mut_slice.ensures.value ∙ c.in-Ok.ensures.len in
+    let same : length bytes / 512 ≡ length c.as_mut_slice.result.now / 512 = ap (λ (n : ℕ). n / 512) c.read_listed-fetched.auto.into in
+    let whole = written-whole c.in-Ok.bytes.len c.in-Ok.bytes.items bytes (c.read_listed-fetched.auto.into ∙ ap (λ (l : List ℕ). length l) c.as_mut_slice.ensures.value) c.in-Ok.bytes.ok.0 in
     let seen_within : c.args.at + length bytes / 512 ≤ visible_size a.members a.limit = rw len c.in_default.ensures.why.0 in
     let within : c.args.at + length bytes / 512 ≤ list_length a.members.newest = le_trans seen_within (visible-within (list_length a.members.newest) a.limit) in
     let does = without-still a.members here.still (shape-without (shape_of a.members.newest) a.members (λ refusal many. c.in_default.ensures.why.1 refusal (inl many))) in
@@ -323,7 +323,7 @@ invariant_of-still-2 g c =
     record { moved = did.moved; since = since; grows = did.grows; clean = did.clean; rise = risen-told did.rise; others = did.others; safe = did.safe } in
     let fetched = fetched-holds given tape a.members m a.work.resync c.shape_in-shape.result c.args.at (length c.as_mut_slice.result.now / 512) c.synced_rows-mended.result bytes c.shape_in-shape.ensures c.synced_rows-mended.ensures.rows same
     (did.holds c.in_default-refusal.is) in
-    with-buffers was.rows_fit (let len = (with_items a.buffer c.fetch-fetched.new.scratch).ok.0 in let ok = a.buffer.ok.0 in let fits = was.buffer_fits in omega (arith, len, ok, fits))
+    with-buffers was.rows_fit (let len = (with_items a.buffer c.read_listed-fetched.new.scratch).ok.0 in let ok = a.buffer.ok.0 in let fits = was.buffer_fits in omega (arith, len, ok, fits))
     (ready (entries_of c.args.who end (losses_of roles spares ++ Read c.args.at (sectors_of bytes) ∷ [])) was (rows-moved given a.members m did.moved)
     (read-stands g.B.Bank.tells given tape tape' scope a.epoch.first a.epoch.entries.items a.members m a.work (still_left a.work a.members a.ahead) (still_left a.work m a.ahead) c.args.who end roles spares before after
     was.kept does (begins-going a.epoch.entries.items c.args.who number) (not_254 c.args.who.caller c.requires.caller) c.ops-end-2.ensures.count named (left-alike a.work a.ahead roles spares before after did.moved since)
@@ -339,7 +339,7 @@ returns-clause-answered g c =
     let a = c.still.inside in
     let number : c.args.who.number ≡ next_number c.args.who.caller a.epoch.entries.items = c.requires.next ∙ ap (λ p. next_number c.args.who.caller p.parts.entries) (sym c.still.view_is) in
     let roles = c.newly_unassigned-roles.result in
-    let spares = c.fetch-fetched.result.spares in
+    let spares = c.read_listed-fetched.result.spares in
     let end = c.ops-end-2.result in
     let into = c.copy_from_slice.new.self in
     let copied = c.copy_from_slice.ensures.after ∙ c.as_slice.ensures.value in
@@ -357,16 +357,16 @@ returns-clause-holds g c = λ t fills i lt.
     let a = c.still.inside in
     let given = g.B.Bank.given a.bank in
     let tape = g.B.Bank.tape a.bank in
-    let did = c.fetch-fetched.ensures in
-    let m = c.fetch-fetched.new.members in
+    let did = c.read_listed-fetched.ensures in
+    let m = c.read_listed-fetched.new.members in
     let before = g.B.Bank.faults_of a.bank in
-    let after = g.B.Bank.faults_of c.fetch-fetched.new.bank in
+    let after = g.B.Bank.faults_of c.read_listed-fetched.new.bank in
     let roles = c.newly_unassigned-roles.result in
-    let spares = c.fetch-fetched.result.spares in
-    let bytes = c.fetch-fetched.new.into in
-    let whole = written-whole c.in-Ok.bytes.len c.in-Ok.bytes.items bytes (c.fetch-fetched.auto.into ∙ ap (λ (l : List ℕ). length l) c.as_mut_slice.ensures.value) c.in-Ok.bytes.ok.0 in
+    let spares = c.read_listed-fetched.result.spares in
+    let bytes = c.read_listed-fetched.new.into in
+    let whole = written-whole c.in-Ok.bytes.len c.in-Ok.bytes.items bytes (c.read_listed-fetched.auto.into ∙ ap (λ (l : List ℕ). length l) c.as_mut_slice.ensures.value) c.in-Ok.bytes.ok.0 in
     let copied : c.copy_from_slice.new.self ≡ bytes = c.copy_from_slice.ensures.after ∙ c.as_slice.ensures.value ∙ whole in
-    let same : length bytes / 512 ≡ length c.as_mut_slice.result.now / 512 = ap (λ (n : ℕ). n / 512) c.fetch-fetched.auto.into in
+    let same : length bytes / 512 ≡ length c.as_mut_slice.result.now / 512 = ap (λ (n : ℕ). n / 512) c.read_listed-fetched.auto.into in
     let does = without-still a.members here.still (shape-without (shape_of a.members.newest) a.members (λ refusal many. c.in_default.ensures.why.1 refusal (inl many))) in
     let since = lost-since given a.members m c.shape_in-shape.result.disks c.unassigned_roles-before.result roles spares before after here.placed did.moved did.failed
     (ap (λ (s : Shape). s.disks) c.shape_in-shape.ensures ∙ sym (count-still a.members.newest here.still)) c.unassigned_roles-before.ensures c.newly_unassigned-roles.ensures in
@@ -387,37 +387,37 @@ returns-clause-called g c =
     let here = was.kept.members_are in
     let a = c.still.inside in
     let given = g.B.Bank.given a.bank in
-    let did = c.fetch-fetched.ensures in
-    let m = c.fetch-fetched.new.members in
+    let did = c.read_listed-fetched.ensures in
+    let m = c.read_listed-fetched.new.members in
     let before = g.B.Bank.faults_of a.bank in
-    let after = g.B.Bank.faults_of c.fetch-fetched.new.bank in
+    let after = g.B.Bank.faults_of c.read_listed-fetched.new.bank in
     let roles = c.newly_unassigned-roles.result in
-    let spares = c.fetch-fetched.result.spares in
+    let spares = c.read_listed-fetched.result.spares in
     let end = c.ops-end-2.result in
     let event = Read c.args.at c.from_bytes-body.result in
     let since = lost-since given a.members m c.shape_in-shape.result.disks c.unassigned_roles-before.result roles spares before after here.placed did.moved did.failed
     (ap (λ (s : Shape). s.disks) c.shape_in-shape.ensures ∙ sym (count-still a.members.newest here.still)) c.unassigned_roles-before.ensures c.newly_unassigned-roles.ensures in
     rw (← c.still.view_is) (called did.grows did.moved
-    (ended-behind (g.B.Bank.tape c.fetch-fetched.new.bank) c.append_after_losses-2.new.epoch.first c.make_room.new.self.items c.args.who end (losses_of roles spares) event c.append_after_losses-2.ensures.items c.ops-end-2.ensures.count)
+    (ended-behind (g.B.Bank.tape c.read_listed-fetched.new.bank) c.append_after_losses-2.new.epoch.first c.make_room.new.self.items c.args.who end (losses_of roles spares) event c.append_after_losses-2.ensures.items c.ops-end-2.ensures.count)
     (losses-behind a.members m before after a.epoch.entries.items c.make_room.new.self.items c.append_after_losses-2.new.epoch.entries.items c.args.who end roles spares event since tt c.make_room.ensures.items c.append_after_losses-2.ensures.items)
     did.counts
     (record { uuid = c.append_after_losses-2.ensures.uuid; given = c.append_after_losses-2.ensures.given; first = c.append_after_losses-2.ensures.first; backup = refl; work = refl; ahead = refl; limit = refl })
     (λ t. (was.kept.recorded t).begun))
 
 pub returns-clause-tape : goal.returns-clause-tape
-returns-clause-tape g c = λ whole t. c.fetch-fetched.ensures.tape whole t ∙ ap (λ p. g.B.Bank.tape p.parts.bank) c.still.view_is
+returns-clause-tape g c = λ whole t. c.read_listed-fetched.ensures.tape whole t ∙ ap (λ p. g.B.Bank.tape p.parts.bank) c.still.view_is
 
 pub returns-clause-others : goal.returns-clause-others
-returns-clause-others g c = subst (λ p. g.B.Bank.tells → AreOthersPresent (present (g.B.Bank.given p.parts.bank) (g.B.Bank.tape p.parts.bank)) (present (g.B.Bank.given p.parts.bank) (g.B.Bank.tape c.fetch-fetched.new.bank))) c.still.view_is c.fetch-fetched.ensures.others
+returns-clause-others g c = subst (λ p. g.B.Bank.tells → AreOthersPresent (present (g.B.Bank.given p.parts.bank) (g.B.Bank.tape p.parts.bank)) (present (g.B.Bank.given p.parts.bank) (g.B.Bank.tape c.read_listed-fetched.new.bank))) c.still.view_is c.read_listed-fetched.ensures.others
 
 pub returns-clause-caused : goal.returns-clause-caused
 returns-clause-caused g c = rw (← c.still.view_is) c.in_default.ensures.why
 
 pub returns-clause-failed : goal.returns-clause-failed
-returns-clause-failed g c = subst (λ p. HaveRolesFailed p.parts.members c.fetch-fetched.new.members (g.B.Bank.faults_of p.parts.bank) (g.B.Bank.faults_of c.fetch-fetched.new.bank)) c.still.view_is c.fetch-fetched.ensures.failed.roles
+returns-clause-failed g c = subst (λ p. HaveRolesFailed p.parts.members c.read_listed-fetched.new.members (g.B.Bank.faults_of p.parts.bank) (g.B.Bank.faults_of c.read_listed-fetched.new.bank)) c.still.view_is c.read_listed-fetched.ensures.failed.roles
 
 pub returns-clause-whole : goal.returns-clause-whole
-returns-clause-whole g c = subst (λ p. AreWhole c.fetch-fetched.new.members → AreWhole p.parts.members) c.still.view_is c.fetch-fetched.ensures.moved.whole
+returns-clause-whole g c = subst (λ p. AreWhole c.read_listed-fetched.new.members → AreWhole p.parts.members) c.still.view_is c.read_listed-fetched.ensures.moved.whole
 
 pub returns-clause-first : goal.returns-clause-first
 returns-clause-first g c = rw (← c.still.view_is) (sym c.in_default.ensures.first)
@@ -482,18 +482,18 @@ pub read_listed-fetched-requires-clause-mended : goal.read_listed-fetched-requir
 read_listed-fetched-requires-clause-mended g c = c.synced_rows-mended.ensures.within
 
 pub newly_unassigned-roles-requires-clause-known : goal.newly_unassigned-roles-requires-clause-known
-newly_unassigned-roles-requires-clause-known g c = known-behind c.fetch-fetched.ensures.moved c.shape_in-shape.ensures
+newly_unassigned-roles-requires-clause-known g c = known-behind c.read_listed-fetched.ensures.moved c.shape_in-shape.ensures
 
 pub copy_from_slice-requires : goal.copy_from_slice-requires
 copy_from_slice-requires g c =
-    let len : length c.fetch-fetched.new.into ≡ length c.args.into.now = c.fetch-fetched.auto.into ∙ ap (λ (l : List ℕ). length l) c.as_mut_slice.ensures.value ∙ c.in-Ok.ensures.len in
-    let whole = written-whole c.in-Ok.bytes.len c.in-Ok.bytes.items c.fetch-fetched.new.into (c.fetch-fetched.auto.into ∙ ap (λ (l : List ℕ). length l) c.as_mut_slice.ensures.value) c.in-Ok.bytes.ok.0 in
+    let len : length c.read_listed-fetched.new.into ≡ length c.args.into.now = c.read_listed-fetched.auto.into ∙ ap (λ (l : List ℕ). length l) c.as_mut_slice.ensures.value ∙ c.in-Ok.ensures.len in
+    let whole = written-whole c.in-Ok.bytes.len c.in-Ok.bytes.items c.read_listed-fetched.new.into (c.read_listed-fetched.auto.into ∙ ap (λ (l : List ℕ). length l) c.as_mut_slice.ensures.value) c.in-Ok.bytes.ok.0 in
     sym (ap (λ (l : List ℕ). length l) (c.as_slice.ensures.value ∙ whole) ∙ len)
 
 pub from_bytes-body-requires : goal.from_bytes-body-requires
 from_bytes-body-requires g c =
-    let len : length c.fetch-fetched.new.into ≡ length c.args.into.now = c.fetch-fetched.auto.into ∙ ap (λ (l : List ℕ). length l) c.as_mut_slice.ensures.value ∙ c.in-Ok.ensures.len in
-    let whole = written-whole c.in-Ok.bytes.len c.in-Ok.bytes.items c.fetch-fetched.new.into (c.fetch-fetched.auto.into ∙ ap (λ (l : List ℕ). length l) c.as_mut_slice.ensures.value) c.in-Ok.bytes.ok.0 in
+    let len : length c.read_listed-fetched.new.into ≡ length c.args.into.now = c.read_listed-fetched.auto.into ∙ ap (λ (l : List ℕ). length l) c.as_mut_slice.ensures.value ∙ c.in-Ok.ensures.len in
+    let whole = written-whole c.in-Ok.bytes.len c.in-Ok.bytes.items c.read_listed-fetched.new.into (c.read_listed-fetched.auto.into ∙ ap (λ (l : List ℕ). length l) c.as_mut_slice.ensures.value) c.in-Ok.bytes.ok.0 in
     subst (λ (l : List ℕ). IsWhole l) (sym whole) (whole-alike _ _ len c.requires.whole)
 
 pub append_after_losses-requires-clause-room : goal.append_after_losses-requires-clause-room
@@ -559,13 +559,13 @@ pub returns-in-Some-clause-given : goal.returns-in-Some-clause-given
 returns-in-Some-clause-given g c = ap (λ p. g.B.Bank.given p.parts.bank) c.still.view_is
 
 pub returns-in-Some-refusal-clause-clean : goal.returns-in-Some-refusal-clause-clean
-returns-in-Some-refusal-clause-clean g c = c.fetch-fetched.ensures.clean ∙ ap (λ p. is_clean p.parts.members.newest) c.still.view_is
+returns-in-Some-refusal-clause-clean g c = c.read_listed-fetched.ensures.clean ∙ ap (λ p. is_clean p.parts.members.newest) c.still.view_is
 
 pub returns-in-Some-refusal-clause-given : goal.returns-in-Some-refusal-clause-given
-returns-in-Some-refusal-clause-given g c = c.fetch-fetched.ensures.given ∙ ap (λ p. g.B.Bank.given p.parts.bank) c.still.view_is
+returns-in-Some-refusal-clause-given g c = c.read_listed-fetched.ensures.given ∙ ap (λ p. g.B.Bank.given p.parts.bank) c.still.view_is
 
 pub returns-clause-clean : goal.returns-clause-clean
-returns-clause-clean g c = c.fetch-fetched.ensures.clean ∙ ap (λ p. is_clean p.parts.members.newest) c.still.view_is
+returns-clause-clean g c = c.read_listed-fetched.ensures.clean ∙ ap (λ p. is_clean p.parts.members.newest) c.still.view_is
 
 pub returns-clause-given : goal.returns-clause-given
-returns-clause-given g c = c.fetch-fetched.ensures.given ∙ ap (λ p. g.B.Bank.given p.parts.bank) c.still.view_is
+returns-clause-given g c = c.read_listed-fetched.ensures.given ∙ ap (λ p. g.B.Bank.given p.parts.bank) c.still.view_is

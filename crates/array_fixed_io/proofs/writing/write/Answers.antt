@@ -129,15 +129,15 @@ invariant_of-still-in-Some-refusal g c =
     let a = c.still.inside in
     let given = g.B.Bank.given a.bank in
     let number : c.args.who.number ≡ next_number c.args.who.caller a.epoch.entries.items = c.requires.next ∙ ap (λ p. next_number c.args.who.caller p.parts.entries) (sym c.still.view_is) in
-    let did = c.put-done.ensures in
-    let m = c.put-done.new.members in
+    let did = c.write_listed-done.ensures in
+    let m = c.write_listed-done.new.members in
     let tape = g.B.Bank.tape a.bank in
-    let tape' = g.B.Bank.tape c.put-done.new.bank in
+    let tape' = g.B.Bank.tape c.write_listed-done.new.bank in
     let before = g.B.Bank.faults_of a.bank in
-    let after = g.B.Bank.faults_of c.put-done.new.bank in
+    let after = g.B.Bank.faults_of c.write_listed-done.new.bank in
     let roles = c.newly_unassigned-roles.result in
-    let spares = c.put-done.result.spares in
-    let torn = c.put-done.result.begun in
+    let spares = c.write_listed-done.result.spares in
+    let torn = c.write_listed-done.result.begun in
     let refusal = c.in-Some-refusal.refusal in
     let end = c.ops-end-2.result in
     let from = c.args.from.now in
@@ -156,13 +156,13 @@ invariant_of-still-in-Some-refusal g c =
     (failed-stands (still_left a.work m a.ahead) c.args.who end shape c.args.at from synced torn refusal was.kept does (begins-going a.epoch.entries.items c.args.who number) (not_254 c.args.who.caller c.requires.caller) c.ops-end-2.ensures.count
     (left-alike a.work a.ahead roles spares before after did.moved since) c.shape_in-shape.ensures asked within
     (λ t. let all = seen was.kept was.limited t in let within = c.in_default.ensures.why.0 in omega (arith, all, within)) put
-    (some-of (IsUnwritten shape synced m) c.put-done.result.refusal refusal c.in-Some-refusal.is did.refused)
-    (λ begun. some-of (LacksTooMany shape m) c.put-done.result.refusal refusal c.in-Some-refusal.is (did.torn begun)) did.untouched)
+    (some-of (IsUnwritten shape synced m) c.write_listed-done.result.refusal refusal c.in-Some-refusal.is did.refused)
+    (λ begun. some-of (LacksTooMany shape m) c.write_listed-done.result.refusal refusal c.in-Some-refusal.is (did.torn begun)) did.untouched)
     (plain-unwritten was c.args.who end (begins-going a.epoch.entries.items c.args.who number) c.requires.caller c.ops-end-2.ensures.count did.grows did.moved since c.args.at from shape torn refusal c.in_default.ensures.why.0
     (c.shape_in-shape.ensures ∙ sym did.moved.shape)
     (put-plain given a.members m here did.moved a.work.resync (visible_size a.members a.limit) (c.args.at + length from / 512) shape synced refusal c.shape_in-shape.ensures asked within
-    (some-of (IsUnwritten shape synced m) c.put-done.result.refusal refusal c.in-Some-refusal.is did.refused))
-    (λ begun. some-of (LacksTooMany shape m) c.put-done.result.refusal refusal c.in-Some-refusal.is (did.torn begun)))
+    (some-of (IsUnwritten shape synced m) c.write_listed-done.result.refusal refusal c.in-Some-refusal.is did.refused))
+    (λ begun. some-of (LacksTooMany shape m) c.write_listed-done.result.refusal refusal c.in-Some-refusal.is (did.torn begun)))
     did.counts (failure-keeps c.args.who end roles spares torn c.args.at body refusal)
     did.given (scope-same given a.backup did.given c.append_failure.ensures.uuid c.append_failure.ensures.given) c.append_failure.ensures.first c.make_room.ensures.items
     (c.append_failure.ensures.items ∙ ap (λ (b : List Sector). c.make_room.new.self.items ++ entries_of c.args.who end (failure_events roles spares torn c.args.at b refusal)) c.in-Ok.ensures)
@@ -173,17 +173,17 @@ returns-in-Some-refusal-clause-answered g c =
     let was = c.still.invariant in
     let a = c.still.inside in
     let number : c.args.who.number ≡ next_number c.args.who.caller a.epoch.entries.items = c.requires.next ∙ ap (λ p. next_number c.args.who.caller p.parts.entries) (sym c.still.view_is) in
-    let m = c.put-done.new.members in
+    let m = c.write_listed-done.new.members in
     let roles = c.newly_unassigned-roles.result in
-    let spares = c.put-done.result.spares in
-    let torn = c.put-done.result.begun in
+    let spares = c.write_listed-done.result.spares in
+    let torn = c.write_listed-done.result.begun in
     let refusal = c.in-Some-refusal.refusal in
     let end = c.ops-end-2.result in
     let size = list_length a.members.newest in
     let body = sectors_of c.args.from.now in
     let within : c.args.at + length body ≤ visible_size a.members a.limit = omega (arith, c.in_default.ensures.why.0, length-sectors_of c.args.from.now) in
     let synced = c.are_synced-synced.result in
-    let why = some-of (IsUnwritten c.shape_in-shape.result synced m) c.put-done.result.refusal refusal c.in-Some-refusal.is c.put-done.ensures.refused in
+    let why = some-of (IsUnwritten c.shape_in-shape.result synced m) c.write_listed-done.result.refusal refusal c.in-Some-refusal.is c.write_listed-done.ensures.refused in
     rw (← c.still.view_is) (failed_reply size a.limit a.epoch.entries.items was.sized was.limited torn c.args.who c.args.at body c.append_failure.new.epoch.entries.items end roles spares refusal within
     (unwritten-of c.shape_in-shape.result synced m refusal why)
     (subst (λ (l : List Entry). c.append_failure.new.epoch.entries.items ≡ l ++ entries_of c.args.who end (failure_events roles spares torn c.args.at body refusal)) c.make_room.ensures.items
@@ -192,19 +192,19 @@ returns-in-Some-refusal-clause-answered g c =
 pub returns-in-Some-refusal-clause-untouched : goal.returns-in-Some-refusal-clause-untouched
 returns-in-Some-refusal-clause-untouched g c =
     let roles = c.newly_unassigned-roles.result in
-    let spares = c.put-done.result.spares in
-    let torn = c.put-done.result.begun in
-    rw (← c.still.view_is) (λ none told. c.put-done.ensures.untouched
+    let spares = c.write_listed-done.result.spares in
+    let torn = c.write_listed-done.result.begun in
+    rw (← c.still.view_is) (λ none told. c.write_listed-done.ensures.untouched
     (torn-told c.args.who c.ops-end-2.result roles spares torn c.args.at c.in-Ok.body c.in-Some-refusal.refusal c.make_room.ensures.items c.append_failure.ensures.items none) told)
 
 pub returns-in-Some-refusal-clause-caused : goal.returns-in-Some-refusal-clause-caused
 returns-in-Some-refusal-clause-caused g c =
     let a = c.still.inside in
-    let m = c.put-done.new.members in
+    let m = c.write_listed-done.new.members in
     let refusal = c.in-Some-refusal.refusal in
     let synced = c.are_synced-synced.result in
     let asked : synced ≡ are_synced (shape_of a.members.newest) (synced_rows a.work.resync a.members) (c.args.at + length c.args.from.now / 512) = c.are_synced-synced.ensures ∙ ap (λ (s : Shape). are_synced s (synced_rows a.work.resync a.members) (c.args.at + length c.args.from.now / 512)) c.shape_in-shape.ensures in
-    let why = some-of (IsUnwritten c.shape_in-shape.result synced m) c.put-done.result.refusal refusal c.in-Some-refusal.is c.put-done.ensures.refused in
+    let why = some-of (IsUnwritten c.shape_in-shape.result synced m) c.write_listed-done.result.refusal refusal c.in-Some-refusal.is c.write_listed-done.ensures.refused in
     rw (← c.still.view_is) (refused-for (visible_size a.members a.limit) (c.args.at + length c.args.from.now / 512)
     (IsUnwritten (shape_of a.members.newest) (are_synced (shape_of a.members.newest) (synced_rows a.work.resync a.members) (c.args.at + length c.args.from.now / 512))) a.members m refusal
     (unwritten-of c.shape_in-shape.result synced m refusal why) c.in_default.ensures.why.0 (subst (λ (s : Shape). IsUnwritten s (are_synced (shape_of a.members.newest) (synced_rows a.work.resync a.members) (c.args.at + length c.args.from.now / 512)) m refusal) c.shape_in-shape.ensures
@@ -213,12 +213,12 @@ returns-in-Some-refusal-clause-caused g c =
 pub returns-in-Some-refusal-clause-first : goal.returns-in-Some-refusal-clause-first
 returns-in-Some-refusal-clause-first g c =
     let a = c.still.inside in
-    let m = c.put-done.new.members in
+    let m = c.write_listed-done.new.members in
     let refusal = c.in-Some-refusal.refusal in
     let to = c.args.at + length c.args.from.now / 512 in
     let asked = are_synced (shape_of a.members.newest) (synced_rows a.work.resync a.members) to in
     let same = c.are_synced-synced.ensures ∙ ap (λ (s : Shape). are_synced s (synced_rows a.work.resync a.members) to) c.shape_in-shape.ensures in
-    let why = some-of (λ r. write_refusal c.shape_in-shape.result c.are_synced-synced.result m ≡ Some r) c.put-done.result.refusal refusal c.in-Some-refusal.is c.put-done.ensures.first in
+    let why = some-of (λ r. write_refusal c.shape_in-shape.result c.are_synced-synced.result m ≡ Some r) c.write_listed-done.result.refusal refusal c.in-Some-refusal.is c.write_listed-done.ensures.first in
     rw (← c.still.view_is) (call-within (visible_size a.members a.limit) to (write_refusal (shape_of a.members.newest) asked m) c.in_default.ensures.why.0
     ∙ subst (λ (s : Shape). write_refusal s asked m ≡ Some refusal) c.shape_in-shape.ensures (subst (λ (b : Bool). write_refusal c.shape_in-shape.result b m ≡ Some refusal) same why))
 
@@ -228,18 +228,18 @@ returns-in-Some-refusal-clause-called g c =
     let here = was.kept.members_are in
     let a = c.still.inside in
     let given = g.B.Bank.given a.bank in
-    let did = c.put-done.ensures in
-    let m = c.put-done.new.members in
+    let did = c.write_listed-done.ensures in
+    let m = c.write_listed-done.new.members in
     let before = g.B.Bank.faults_of a.bank in
-    let after = g.B.Bank.faults_of c.put-done.new.bank in
+    let after = g.B.Bank.faults_of c.write_listed-done.new.bank in
     let roles = c.newly_unassigned-roles.result in
-    let spares = c.put-done.result.spares in
-    let torn = c.put-done.result.begun in
+    let spares = c.write_listed-done.result.spares in
+    let torn = c.write_listed-done.result.begun in
     let end = c.ops-end-2.result in
     let since = lost-since given a.members m c.shape_in-shape.result.disks c.unassigned_roles-before.result roles spares before after here.placed did.moved did.failed
     (ap (λ (s : Shape). s.disks) c.shape_in-shape.ensures ∙ sym (count-still a.members.newest here.still)) c.unassigned_roles-before.ensures c.newly_unassigned-roles.ensures in
     rw (← c.still.view_is) (called did.grows did.moved
-    (ended-failure (g.B.Bank.tape c.put-done.new.bank) c.append_failure.new.epoch.first c.make_room.new.self.items c.args.who end roles spares torn c.args.at c.in-Ok.body c.in-Some-refusal.refusal c.append_failure.ensures.items c.ops-end-2.ensures.count)
+    (ended-failure (g.B.Bank.tape c.write_listed-done.new.bank) c.append_failure.new.epoch.first c.make_room.new.self.items c.args.who end roles spares torn c.args.at c.in-Ok.body c.in-Some-refusal.refusal c.append_failure.ensures.items c.ops-end-2.ensures.count)
     (losses-failure a.members m before after a.epoch.entries.items c.make_room.new.self.items c.append_failure.new.epoch.entries.items c.args.who end roles spares torn c.args.at c.in-Ok.body c.in-Some-refusal.refusal since
     c.make_room.ensures.items c.append_failure.ensures.items)
     did.counts
@@ -256,14 +256,14 @@ invariant_of-still-2 g c =
     let given = g.B.Bank.given a.bank in
     let scope = scope_in given a.epoch.uuid a.epoch.given a.backup in
     let number : c.args.who.number ≡ next_number c.args.who.caller a.epoch.entries.items = c.requires.next ∙ ap (λ p. next_number c.args.who.caller p.parts.entries) (sym c.still.view_is) in
-    let did = c.put-done.ensures in
-    let m = c.put-done.new.members in
+    let did = c.write_listed-done.ensures in
+    let m = c.write_listed-done.new.members in
     let tape = g.B.Bank.tape a.bank in
-    let tape' = g.B.Bank.tape c.put-done.new.bank in
+    let tape' = g.B.Bank.tape c.write_listed-done.new.bank in
     let before = g.B.Bank.faults_of a.bank in
-    let after = g.B.Bank.faults_of c.put-done.new.bank in
+    let after = g.B.Bank.faults_of c.write_listed-done.new.bank in
     let roles = c.newly_unassigned-roles.result in
-    let spares = c.put-done.result.spares in
+    let spares = c.write_listed-done.result.spares in
     let end = c.ops-end-2.result in
     let from = c.args.from.now in
     let body = sectors_of from in
@@ -278,11 +278,11 @@ invariant_of-still-2 g c =
     let since = lost-since given a.members m c.shape_in-shape.result.disks c.unassigned_roles-before.result roles spares before after here.placed did.moved did.failed
     (ap (λ (s : Shape). s.disks) c.shape_in-shape.ensures ∙ sym (count-still a.members.newest here.still)) c.unassigned_roles-before.ensures c.newly_unassigned-roles.ensures in
     let put = put-still given tape tape' a.members m here did.moved a.work.resync shape c.shape_in-shape.ensures c.args.at from synced asked since did.grows did.stays did.rise did.safe in
-    let written = written-still given tape tape' a.members m here did.moved a.work.resync shape c.shape_in-shape.ensures c.args.at from synced asked (did.dirty done) did.others (did.write_listed done)
+    let written = written-still given tape tape' a.members m here did.moved a.work.resync shape c.shape_in-shape.ensures c.args.at from synced asked (did.dirty done) did.others (did.put done)
     (λ t list more written. did.good done t list more written bytes) (did.rebuilt done) in
     with-buffers (let fits = was.rows_fit in let more = did.rows in omega (arith, fits, more)) (rw did.buffer was.buffer_fits)
     (ready (entries_of c.args.who end (losses_of roles spares ++ Wrote c.args.at body ∷ [])) was (rows-moved given a.members m did.moved)
-    (wrote-stands g.B.Bank.tells given tape tape' scope a.epoch.first a.epoch.entries.items a.members m a.work (still_left a.work a.members a.ahead) (still_left a.work m a.ahead) c.args.who end roles spares before after c.args.at from c.put-done.result.begun
+    (wrote-stands g.B.Bank.tells given tape tape' scope a.epoch.first a.epoch.entries.items a.members m a.work (still_left a.work a.members a.ahead) (still_left a.work m a.ahead) c.args.who end roles spares before after c.args.at from c.write_listed-done.result.begun
     was.kept does (begins-going a.epoch.entries.items c.args.who number) (not_254 c.args.who.caller c.requires.caller) c.ops-end-2.ensures.count (left-alike a.work a.ahead roles spares before after did.moved since) within
     (λ t. let all = seen was.kept was.limited t in let within = c.in_default.ensures.why.0 in omega (arith, all, within)) put written c.requires.whole bytes)
     (plain-wrote was c.args.who end (begins-going a.epoch.entries.items c.args.who number) c.requires.caller c.ops-end-2.ensures.count did.grows did.moved since c.args.at from c.in_default.ensures.why.0)
@@ -296,7 +296,7 @@ returns-clause-answered g c =
     let a = c.still.inside in
     let number : c.args.who.number ≡ next_number c.args.who.caller a.epoch.entries.items = c.requires.next ∙ ap (λ p. next_number c.args.who.caller p.parts.entries) (sym c.still.view_is) in
     let roles = c.newly_unassigned-roles.result in
-    let spares = c.put-done.result.spares in
+    let spares = c.write_listed-done.result.spares in
     let end = c.ops-end-2.result in
     let body = sectors_of c.args.from.now in
     rw (← c.still.view_is) (replied (list_length a.members.newest) (AsksWrite c.args.at body) c.args.who a.epoch.entries.items c.append_after_losses.new.epoch.entries.items
@@ -311,18 +311,18 @@ returns-clause-called g c =
     let here = was.kept.members_are in
     let a = c.still.inside in
     let given = g.B.Bank.given a.bank in
-    let did = c.put-done.ensures in
-    let m = c.put-done.new.members in
+    let did = c.write_listed-done.ensures in
+    let m = c.write_listed-done.new.members in
     let before = g.B.Bank.faults_of a.bank in
-    let after = g.B.Bank.faults_of c.put-done.new.bank in
+    let after = g.B.Bank.faults_of c.write_listed-done.new.bank in
     let roles = c.newly_unassigned-roles.result in
-    let spares = c.put-done.result.spares in
+    let spares = c.write_listed-done.result.spares in
     let end = c.ops-end-2.result in
     let event = Wrote c.args.at c.in-Ok.body in
     let since = lost-since given a.members m c.shape_in-shape.result.disks c.unassigned_roles-before.result roles spares before after here.placed did.moved did.failed
     (ap (λ (s : Shape). s.disks) c.shape_in-shape.ensures ∙ sym (count-still a.members.newest here.still)) c.unassigned_roles-before.ensures c.newly_unassigned-roles.ensures in
     rw (← c.still.view_is) (called did.grows did.moved
-    (ended-behind (g.B.Bank.tape c.put-done.new.bank) c.append_after_losses.new.epoch.first c.make_room.new.self.items c.args.who end (losses_of roles spares) event c.append_after_losses.ensures.items c.ops-end-2.ensures.count)
+    (ended-behind (g.B.Bank.tape c.write_listed-done.new.bank) c.append_after_losses.new.epoch.first c.make_room.new.self.items c.args.who end (losses_of roles spares) event c.append_after_losses.ensures.items c.ops-end-2.ensures.count)
     (losses-behind a.members m before after a.epoch.entries.items c.make_room.new.self.items c.append_after_losses.new.epoch.entries.items c.args.who end roles spares event since tt c.make_room.ensures.items c.append_after_losses.ensures.items)
     did.counts
     (record { uuid = c.append_after_losses.ensures.uuid; given = c.append_after_losses.ensures.given; first = c.append_after_losses.ensures.first; backup = refl; work = refl; ahead = refl; limit = refl })
@@ -457,8 +457,8 @@ write_listed-done-requires-clause-buffer g c = c.still.invariant.buffer_fits
 
 pub newly_unassigned-roles-requires-clause-known : goal.newly_unassigned-roles-requires-clause-known
 newly_unassigned-roles-requires-clause-known g c =
-    let moved = c.put-done.ensures.moved in
-    shape-known (g.B.Bank.given c.still.inside.bank) c.put-done.new.members moved.placed c.shape_in-shape.result (c.shape_in-shape.ensures ∙ sym moved.shape)
+    let moved = c.write_listed-done.ensures.moved in
+    shape-known (g.B.Bank.given c.still.inside.bank) c.write_listed-done.new.members moved.placed c.shape_in-shape.result (c.shape_in-shape.ensures ∙ sym moved.shape)
 
 pub newly_unassigned-roles-requires-clause-few : goal.newly_unassigned-roles-requires-clause-few
 newly_unassigned-roles-requires-clause-few g c = shape-few (g.B.Bank.given c.still.inside.bank) c.still.inside.members c.still.invariant.kept.members_are.placed c.shape_in-shape.result c.shape_in-shape.ensures
@@ -470,7 +470,7 @@ pub append_failure-requires-clause-number : goal.append_failure-requires-clause-
 append_failure-requires-clause-number g c = c.check_number.ensures
 
 pub returns-in-Some-refusal-clause-given : goal.returns-in-Some-refusal-clause-given
-returns-in-Some-refusal-clause-given g c = c.put-done.ensures.given ∙ ap (λ p. g.B.Bank.given p.parts.bank) c.still.view_is
+returns-in-Some-refusal-clause-given g c = c.write_listed-done.ensures.given ∙ ap (λ p. g.B.Bank.given p.parts.bank) c.still.view_is
 
 pub append_after_losses-requires-clause-room : goal.append_after_losses-requires-clause-room
 append_after_losses-requires-clause-room g c = room-49 c.make_room.new.self.room (room-50 51 c.make_room.new.self.room (omega arith) c.in-Ok-make_room.ensures.ok)
@@ -479,10 +479,10 @@ pub append_after_losses-requires-clause-number : goal.append_after_losses-requir
 append_after_losses-requires-clause-number g c = c.check_number.ensures
 
 pub returns-clause-dirty : goal.returns-clause-dirty
-returns-clause-dirty g c = c.put-done.ensures.dirty c.in_default-refusal.is
+returns-clause-dirty g c = c.write_listed-done.ensures.dirty c.in_default-refusal.is
 
 pub returns-clause-given : goal.returns-clause-given
-returns-clause-given g c = c.put-done.ensures.given ∙ ap (λ p. g.B.Bank.given p.parts.bank) c.still.view_is
+returns-clause-given g c = c.write_listed-done.ensures.given ∙ ap (λ p. g.B.Bank.given p.parts.bank) c.still.view_is
 
 pub returns-in-Some-clause-caused : goal.returns-in-Some-clause-caused
 returns-in-Some-clause-caused g c =
@@ -500,17 +500,17 @@ returns-in-Some-clause-first g c =
 
 pub returns-in-Some-refusal-clause-failed : goal.returns-in-Some-refusal-clause-failed
 returns-in-Some-refusal-clause-failed g c =
-    subst (λ p. HaveRolesFailed p.parts.members c.put-done.new.members (g.B.Bank.faults_of p.parts.bank) (g.B.Bank.faults_of c.put-done.new.bank)) c.still.view_is c.put-done.ensures.failed.roles
+    subst (λ p. HaveRolesFailed p.parts.members c.write_listed-done.new.members (g.B.Bank.faults_of p.parts.bank) (g.B.Bank.faults_of c.write_listed-done.new.bank)) c.still.view_is c.write_listed-done.ensures.failed.roles
 
 pub returns-in-Some-refusal-clause-whole : goal.returns-in-Some-refusal-clause-whole
-returns-in-Some-refusal-clause-whole g c = subst (λ p. AreWhole c.put-done.new.members → AreWhole p.parts.members) c.still.view_is c.put-done.ensures.moved.whole
+returns-in-Some-refusal-clause-whole g c = subst (λ p. AreWhole c.write_listed-done.new.members → AreWhole p.parts.members) c.still.view_is c.write_listed-done.ensures.moved.whole
 
 pub returns-clause-failed : goal.returns-clause-failed
 returns-clause-failed g c =
-    subst (λ p. HaveRolesFailed p.parts.members c.put-done.new.members (g.B.Bank.faults_of p.parts.bank) (g.B.Bank.faults_of c.put-done.new.bank)) c.still.view_is c.put-done.ensures.failed.roles
+    subst (λ p. HaveRolesFailed p.parts.members c.write_listed-done.new.members (g.B.Bank.faults_of p.parts.bank) (g.B.Bank.faults_of c.write_listed-done.new.bank)) c.still.view_is c.write_listed-done.ensures.failed.roles
 
 pub returns-clause-whole : goal.returns-clause-whole
-returns-clause-whole g c = subst (λ p. AreWhole c.put-done.new.members → AreWhole p.parts.members) c.still.view_is c.put-done.ensures.moved.whole
+returns-clause-whole g c = subst (λ p. AreWhole c.write_listed-done.new.members → AreWhole p.parts.members) c.still.view_is c.write_listed-done.ensures.moved.whole
 
 pub returns-in-Some-clause-untouched : goal.returns-in-Some-clause-untouched
 returns-in-Some-clause-untouched g c = λ none.

@@ -62,17 +62,17 @@ invariant_of-still g c =
     let goes : IsCallGoing a.epoch.entries.items c.args.who = subst (λ p. IsCallGoing p.parts.entries c.args.who) (sym c.still.view_is) c.requires.open in
     let all : IsAllSynced a.work.resync a.members = subst (λ p. IsAllSynced p.parts.work.resync p.parts.members) (sym c.still.view_is) c.requires.pending in
     let some : 1 ≤ a.steps = subst (λ p. 1 ≤ p.parts.steps) (sym c.still.view_is) c.requires.room in
-    let did = c.settle-settled.ensures in
-    let m = c.settle-settled.new.members in
+    let did = c.flush_and_mark-settled.ensures in
+    let m = c.flush_and_mark-settled.new.members in
     let before = g.B.Bank.faults_of a.bank in
-    let after = g.B.Bank.faults_of c.settle-settled.new.bank in
+    let after = g.B.Bank.faults_of c.flush_and_mark-settled.new.bank in
     let roles = c.newly_unassigned-roles.result in
-    let spares = c.settle-settled.result.spares in
+    let spares = c.flush_and_mark-settled.result.spares in
     let end = c.ops-end.result in
     let refusal = c.in-Some-refusal.refusal in
     let since : AreLostSince a.members m roles spares before after = lost-since given a.members m c.shape_in-disks.result.disks c.unassigned_roles-before.result roles spares before after here.placed did.moved did.failed
     (ap (λ (s : Shape). s.disks) c.shape_in-disks.ensures ∙ sym (count-still a.members.newest here.still)) c.unassigned_roles-before.ensures c.newly_unassigned-roles.ensures in
-    let leaves : IsFlushedStill g.B.Bank.tells given (g.B.Bank.tape a.bank) (g.B.Bank.tape c.settle-settled.new.bank) a.members m roles spares before after false = record {
+    let leaves : IsFlushedStill g.B.Bank.tells given (g.B.Bank.tape a.bank) (g.B.Bank.tape c.flush_and_mark-settled.new.bank) a.members m roles spares before after false = record {
       moved = did.moved;
       since = since;
       grows = did.grows;
@@ -82,9 +82,9 @@ invariant_of-still g c =
     } in
     ready (entries_of c.args.who end (losses_of roles spares ++ Refused refusal ∷ [])) was (rows-moved given a.members m did.moved)
     (resync-refused a.ahead c.args.who end roles spares was.kept c.in_default.ensures goes c.requires.caller c.ops-end.ensures.count all leaves refusal
-    (refused-of (AreTooMany m) c.settle-settled.result.refusal refusal c.in-Some-refusal.is did.refused))
+    (refused-of (AreTooMany m) c.flush_and_mark-settled.result.refusal refusal c.in-Some-refusal.is did.refused))
     (plain-refused was c.args.who end goes c.requires.caller c.ops-end.ensures.count did.grows did.moved since refusal
-    (too-many-here (visible_size a.members a.limit) a.work.resync m refusal (refused-of (AreTooMany m) c.settle-settled.result.refusal refusal c.in-Some-refusal.is did.refused)))
+    (too-many-here (visible_size a.members a.limit) a.work.resync m refusal (refused-of (AreTooMany m) c.flush_and_mark-settled.result.refusal refusal c.in-Some-refusal.is did.refused)))
     did.counts (behind-keeps c.args.who end roles spares (Refused refusal ∷ []) (alone-keeps c.args.who end (Refused refusal) (λ n. refl) (λ limit. refl)))
     did.given (scope-same given a.backup did.given c.append_after_losses.ensures.uuid c.append_after_losses.ensures.given) c.append_after_losses.ensures.first refl c.append_after_losses.ensures.items
     (room-after was.room_left some c.append_after_losses.ensures.room)
@@ -95,18 +95,18 @@ returns-in-Some-refusal-clause-stepped g c =
     let here = was.kept.members_are in
     let a = c.still.inside in
     let given = g.B.Bank.given a.bank in
-    let did = c.settle-settled.ensures in
-    let m = c.settle-settled.new.members in
+    let did = c.flush_and_mark-settled.ensures in
+    let m = c.flush_and_mark-settled.new.members in
     let before = g.B.Bank.faults_of a.bank in
-    let after = g.B.Bank.faults_of c.settle-settled.new.bank in
+    let after = g.B.Bank.faults_of c.flush_and_mark-settled.new.bank in
     let roles = c.newly_unassigned-roles.result in
-    let spares = c.settle-settled.result.spares in
+    let spares = c.flush_and_mark-settled.result.spares in
     let end = c.ops-end.result in
     let refusal = c.in-Some-refusal.refusal in
     let since : AreLostSince a.members m roles spares before after = lost-since given a.members m c.shape_in-disks.result.disks c.unassigned_roles-before.result roles spares before after here.placed did.moved did.failed
     (ap (λ (s : Shape). s.disks) c.shape_in-disks.ensures ∙ sym (count-still a.members.newest here.still)) c.unassigned_roles-before.ensures c.newly_unassigned-roles.ensures in
     rw (← c.still.view_is) (stepped did.grows (shapes-moved did.moved)
-    (ended-behind (g.B.Bank.tape c.settle-settled.new.bank) c.append_after_losses.new.epoch.first a.epoch.entries.items c.args.who end (losses_of roles spares) (Refused refusal) c.append_after_losses.ensures.items c.ops-end.ensures.count)
+    (ended-behind (g.B.Bank.tape c.flush_and_mark-settled.new.bank) c.append_after_losses.new.epoch.first a.epoch.entries.items c.args.who end (losses_of roles spares) (Refused refusal) c.append_after_losses.ensures.items c.ops-end.ensures.count)
     did.failed.roles
     (losses-behind a.members m before after a.epoch.entries.items a.epoch.entries.items c.append_after_losses.new.epoch.entries.items c.args.who end roles spares (Refused refusal) since tt refl c.append_after_losses.ensures.items)
     did.counts
@@ -118,12 +118,12 @@ returns-in-Some-refusal-clause-stays g c =
     let was = c.still.invariant in
     let here = was.kept.members_are in
     let a = c.still.inside in
-    let did = c.settle-settled.ensures in
-    let m = c.settle-settled.new.members in
+    let did = c.flush_and_mark-settled.ensures in
+    let m = c.flush_and_mark-settled.new.members in
     let before = g.B.Bank.faults_of a.bank in
-    let after = g.B.Bank.faults_of c.settle-settled.new.bank in
+    let after = g.B.Bank.faults_of c.flush_and_mark-settled.new.bank in
     let roles = c.newly_unassigned-roles.result in
-    let spares = c.settle-settled.result.spares in
+    let spares = c.flush_and_mark-settled.result.spares in
     let since : AreLostSince a.members m roles spares before after = lost-since (g.B.Bank.given a.bank) a.members m c.shape_in-disks.result.disks c.unassigned_roles-before.result roles spares before after here.placed did.moved did.failed
     (ap (λ (s : Shape). s.disks) c.shape_in-disks.ensures ∙ sym (count-still a.members.newest here.still)) c.unassigned_roles-before.ensures c.newly_unassigned-roles.ensures in
     rw (← c.still.view_is) (kept-more (planned-same a.ahead (shapes-moved did.moved))
@@ -132,16 +132,16 @@ returns-in-Some-refusal-clause-stays g c =
 pub returns-in-Some-refusal-clause-caused : goal.returns-in-Some-refusal-clause-caused
 returns-in-Some-refusal-clause-caused g c =
     let a = c.still.inside in
-    let m = c.settle-settled.new.members in
+    let m = c.flush_and_mark-settled.new.members in
     let refusal = c.in-Some-refusal.refusal in
-    let many = refused-of (AreTooMany m) c.settle-settled.result.refusal refusal c.in-Some-refusal.is c.settle-settled.ensures.refused in
+    let many = refused-of (AreTooMany m) c.flush_and_mark-settled.result.refusal refusal c.in-Some-refusal.is c.flush_and_mark-settled.ensures.refused in
     rw (← c.still.view_is) (refused-for (list_length a.members.newest) 0 AreTooMany a.members m refusal (too-many-of m refusal many) (omega arith) many)
 
 pub returns-in-Some-refusal-clause-held : goal.returns-in-Some-refusal-clause-held
-returns-in-Some-refusal-clause-held g c = subst (λ p. AreStillHeld p.parts.members c.settle-settled.new.members) c.still.view_is c.settle-settled.ensures.moved.held
+returns-in-Some-refusal-clause-held g c = subst (λ p. AreStillHeld p.parts.members c.flush_and_mark-settled.new.members) c.still.view_is c.flush_and_mark-settled.ensures.moved.held
 
 pub returns-in-Some-refusal-clause-spares : goal.returns-in-Some-refusal-clause-spares
-returns-in-Some-refusal-clause-spares g c = subst (λ p. AreSparesFewer p.parts.members c.settle-settled.new.members) c.still.view_is c.settle-settled.ensures.moved.fewer
+returns-in-Some-refusal-clause-spares g c = subst (λ p. AreSparesFewer p.parts.members c.flush_and_mark-settled.new.members) c.still.view_is c.flush_and_mark-settled.ensures.moved.fewer
 
 -- ---- ended
 
@@ -155,17 +155,17 @@ invariant_of-still-2 g c =
     let all : IsAllSynced a.work.resync a.members = subst (λ p. IsAllSynced p.parts.work.resync p.parts.members) (sym c.still.view_is) c.requires.pending in
     let plans = subst (λ p. ArePlansKept g.B.Bank.tells (moving_world (g.B.Bank.given p.parts.bank) (g.B.Bank.tape p.parts.bank) p) p) (sym c.still.view_is) c.requires.plans in
     let some : 1 ≤ a.steps = subst (λ p. 1 ≤ p.parts.steps) (sym c.still.view_is) c.requires.room in
-    let did = c.settle-settled.ensures in
-    let m = c.settle-settled.new.members in
+    let did = c.flush_and_mark-settled.ensures in
+    let m = c.flush_and_mark-settled.new.members in
     let before = g.B.Bank.faults_of a.bank in
-    let after = g.B.Bank.faults_of c.settle-settled.new.bank in
+    let after = g.B.Bank.faults_of c.flush_and_mark-settled.new.bank in
     let roles = c.newly_unassigned-roles.result in
-    let spares = c.settle-settled.result.spares in
+    let spares = c.flush_and_mark-settled.result.spares in
     let end = c.ops-end.result in
     let left = c.all_left-left.result in
     let since : AreLostSince a.members m roles spares before after = lost-since given a.members m c.shape_in-disks.result.disks c.unassigned_roles-before.result roles spares before after here.placed did.moved did.failed
     (ap (λ (s : Shape). s.disks) c.shape_in-disks.ensures ∙ sym (count-still a.members.newest here.still)) c.unassigned_roles-before.ensures c.newly_unassigned-roles.ensures in
-    let leaves : IsFlushedStill g.B.Bank.tells given (g.B.Bank.tape a.bank) (g.B.Bank.tape c.settle-settled.new.bank) a.members m roles spares before after false = record {
+    let leaves : IsFlushedStill g.B.Bank.tells given (g.B.Bank.tape a.bank) (g.B.Bank.tape c.flush_and_mark-settled.new.bank) a.members m roles spares before after false = record {
       moved = did.moved;
       since = since;
       grows = did.grows;
@@ -173,7 +173,7 @@ invariant_of-still-2 g c =
       others = did.others;
       safe = did.safe;
     } in
-    let done : IsSettledStill g.B.Bank.tells given (g.B.Bank.tape a.bank) (g.B.Bank.tape c.settle-settled.new.bank) a.members m false = record {
+    let done : IsSettledStill g.B.Bank.tells given (g.B.Bank.tape a.bank) (g.B.Bank.tape c.flush_and_mark-settled.new.bank) a.members m false = record {
       clean = did.clean c.in_default-refusal.is;
       stays = did.stays;
       settled = did.settled c.in_default-refusal.is;
@@ -191,18 +191,18 @@ returns-clause-stepped g c =
     let here = was.kept.members_are in
     let a = c.still.inside in
     let given = g.B.Bank.given a.bank in
-    let did = c.settle-settled.ensures in
-    let m = c.settle-settled.new.members in
+    let did = c.flush_and_mark-settled.ensures in
+    let m = c.flush_and_mark-settled.new.members in
     let before = g.B.Bank.faults_of a.bank in
-    let after = g.B.Bank.faults_of c.settle-settled.new.bank in
+    let after = g.B.Bank.faults_of c.flush_and_mark-settled.new.bank in
     let roles = c.newly_unassigned-roles.result in
-    let spares = c.settle-settled.result.spares in
+    let spares = c.flush_and_mark-settled.result.spares in
     let end = c.ops-end.result in
     let event = Step ResyncEnded c.all_left-left.result in
     let since : AreLostSince a.members m roles spares before after = lost-since given a.members m c.shape_in-disks.result.disks c.unassigned_roles-before.result roles spares before after here.placed did.moved did.failed
     (ap (λ (s : Shape). s.disks) c.shape_in-disks.ensures ∙ sym (count-still a.members.newest here.still)) c.unassigned_roles-before.ensures c.newly_unassigned-roles.ensures in
     rw (← c.still.view_is) (stepped did.grows (shapes-moved did.moved)
-    (ended-behind (g.B.Bank.tape c.settle-settled.new.bank) c.append_after_losses-2.new.epoch.first a.epoch.entries.items c.args.who end (losses_of roles spares) event c.append_after_losses-2.ensures.items c.ops-end.ensures.count)
+    (ended-behind (g.B.Bank.tape c.flush_and_mark-settled.new.bank) c.append_after_losses-2.new.epoch.first a.epoch.entries.items c.args.who end (losses_of roles spares) event c.append_after_losses-2.ensures.items c.ops-end.ensures.count)
     did.failed.roles
     (losses-behind a.members m before after a.epoch.entries.items a.epoch.entries.items c.append_after_losses-2.new.epoch.entries.items c.args.who end roles spares event since tt refl c.append_after_losses-2.ensures.items)
     did.counts
@@ -215,12 +215,12 @@ returns-clause-left g c =
     let here = was.kept.members_are in
     let a = c.still.inside in
     let all : IsAllSynced a.work.resync a.members = subst (λ p. IsAllSynced p.parts.work.resync p.parts.members) (sym c.still.view_is) c.requires.pending in
-    let did = c.settle-settled.ensures in
-    let m = c.settle-settled.new.members in
+    let did = c.flush_and_mark-settled.ensures in
+    let m = c.flush_and_mark-settled.new.members in
     let before = g.B.Bank.faults_of a.bank in
-    let after = g.B.Bank.faults_of c.settle-settled.new.bank in
+    let after = g.B.Bank.faults_of c.flush_and_mark-settled.new.bank in
     let roles = c.newly_unassigned-roles.result in
-    let spares = c.settle-settled.result.spares in
+    let spares = c.flush_and_mark-settled.result.spares in
     let since : AreLostSince a.members m roles spares before after = lost-since (g.B.Bank.given a.bank) a.members m c.shape_in-disks.result.disks c.unassigned_roles-before.result roles spares before after here.placed did.moved did.failed
     (ap (λ (s : Shape). s.disks) c.shape_in-disks.ensures ∙ sym (count-still a.members.newest here.still)) c.unassigned_roles-before.ensures c.newly_unassigned-roles.ensures in
     rw (← c.still.view_is) (fewer-more (planned-same a.ahead (shapes-moved did.moved))
@@ -234,21 +234,21 @@ pub returns-clause-good : goal.returns-clause-good
 returns-clause-good g c = λ t does fit row low. ((invariant_of-still-2 g c).kept.listed t does (inr fit)).rows fit row low low
 
 pub returns-clause-flushed : goal.returns-clause-flushed
-returns-clause-flushed g c = subst (λ p. g.B.Bank.tells → AreHoldersFlushed (reading_of c.settle-settled.new.members) (g.B.Bank.given p.parts.bank) (g.B.Bank.tape c.settle-settled.new.bank)) c.still.view_is c.settle-settled.ensures.flushed
+returns-clause-flushed g c = subst (λ p. g.B.Bank.tells → AreHoldersFlushed (reading_of c.flush_and_mark-settled.new.members) (g.B.Bank.given p.parts.bank) (g.B.Bank.tape c.flush_and_mark-settled.new.bank)) c.still.view_is c.flush_and_mark-settled.ensures.flushed
 
 pub returns-clause-held : goal.returns-clause-held
-returns-clause-held g c = subst (λ p. AreStillHeld p.parts.members c.settle-settled.new.members) c.still.view_is c.settle-settled.ensures.moved.held
+returns-clause-held g c = subst (λ p. AreStillHeld p.parts.members c.flush_and_mark-settled.new.members) c.still.view_is c.flush_and_mark-settled.ensures.moved.held
 
 pub returns-clause-spares : goal.returns-clause-spares
-returns-clause-spares g c = subst (λ p. AreSparesFewer p.parts.members c.settle-settled.new.members) c.still.view_is c.settle-settled.ensures.moved.fewer
+returns-clause-spares g c = subst (λ p. AreSparesFewer p.parts.members c.flush_and_mark-settled.new.members) c.still.view_is c.flush_and_mark-settled.ensures.moved.fewer
 
 -- ---- the call goes on
 
 pub returns-in-Some-refusal-clause-open : goal.returns-in-Some-refusal-clause-open
-returns-in-Some-refusal-clause-open g c = step-going c.args.who c.ops-end.result c.newly_unassigned-roles.result c.settle-settled.result.spares (Refused c.in-Some-refusal.refusal) c.requires.open tt (ap (λ p. p.parts.entries) c.still.view_is) c.append_after_losses.ensures.items
+returns-in-Some-refusal-clause-open g c = step-going c.args.who c.ops-end.result c.newly_unassigned-roles.result c.flush_and_mark-settled.result.spares (Refused c.in-Some-refusal.refusal) c.requires.open tt (ap (λ p. p.parts.entries) c.still.view_is) c.append_after_losses.ensures.items
 
 pub returns-clause-open : goal.returns-clause-open
-returns-clause-open g c = step-going c.args.who c.ops-end.result c.newly_unassigned-roles.result c.settle-settled.result.spares (Step ResyncEnded c.all_left-left.result) c.requires.open tt (ap (λ p. p.parts.entries) c.still.view_is) c.append_after_losses-2.ensures.items
+returns-clause-open g c = step-going c.args.who c.ops-end.result c.newly_unassigned-roles.result c.flush_and_mark-settled.result.spares (Step ResyncEnded c.all_left-left.result) c.requires.open tt (ap (λ p. p.parts.entries) c.still.view_is) c.append_after_losses-2.ensures.items
 
 -- ---- what the calls ask
 
@@ -262,22 +262,22 @@ pub unassigned_roles-before-requires-clause-few : goal.unassigned_roles-before-r
 unassigned_roles-before-requires-clause-few g c = few-at c.still.invariant.kept.members_are.placed c.shape_in-disks.ensures
 
 pub newly_unassigned-roles-requires-clause-known : goal.newly_unassigned-roles-requires-clause-known
-newly_unassigned-roles-requires-clause-known g c = known-behind c.settle-settled.ensures.moved c.shape_in-disks.ensures
+newly_unassigned-roles-requires-clause-known g c = known-behind c.flush_and_mark-settled.ensures.moved c.shape_in-disks.ensures
 
 pub newly_unassigned-roles-requires-clause-few : goal.newly_unassigned-roles-requires-clause-few
 newly_unassigned-roles-requires-clause-few g c = few-at c.still.invariant.kept.members_are.placed c.shape_in-disks.ensures
 
 pub all_left-left-requires-clause-shape : goal.all_left-left-requires-clause-shape
-all_left-left-requires-clause-shape g c = c.settle-settled.ensures.moved.placed.fit.valid.old
+all_left-left-requires-clause-shape g c = c.flush_and_mark-settled.ensures.moved.placed.fit.valid.old
 
 pub all_left-left-requires-clause-size : goal.all_left-left-requires-clause-size
-all_left-left-requires-clause-size g c = short (g.B.Bank.given c.still.inside.bank) c.settle-settled.new.members c.settle-settled.ensures.moved.placed
+all_left-left-requires-clause-size g c = short (g.B.Bank.given c.still.inside.bank) c.flush_and_mark-settled.new.members c.flush_and_mark-settled.ensures.moved.placed
 
 pub all_left-left-requires-clause-roles : goal.all_left-left-requires-clause-roles
-all_left-left-requires-clause-roles g c = known-at c.settle-settled.ensures.moved.placed refl
+all_left-left-requires-clause-roles g c = known-at c.flush_and_mark-settled.ensures.moved.placed refl
 
 pub all_left-left-requires-clause-sound : goal.all_left-left-requires-clause-sound
-all_left-left-requires-clause-sound g c = sound-behind c.still.inside.ahead c.settle-settled.ensures.moved c.still.invariant.planned
+all_left-left-requires-clause-sound g c = sound-behind c.still.inside.ahead c.flush_and_mark-settled.ensures.moved c.still.invariant.planned
 
 pub append_after_losses-requires-clause-room : goal.append_after_losses-requires-clause-room
 append_after_losses-requires-clause-room g c = room-for-step (ap (λ p. p.parts.steps) c.still.view_is) c.still.invariant.room_left c.requires.room
@@ -297,7 +297,7 @@ pub returns-in-Some-clause-stays : goal.returns-in-Some-clause-stays
 returns-in-Some-clause-stays g c = c.refuse_step.ensures.stays
 
 pub returns-in-Some-refusal-clause-entered : goal.returns-in-Some-refusal-clause-entered
-returns-in-Some-refusal-clause-entered g c = one-entered c.args.who c.ops-end.result c.newly_unassigned-roles.result c.settle-settled.result.spares (Refused c.in-Some-refusal.refusal) (ap (λ p. p.parts.entries) c.still.view_is) c.append_after_losses.ensures.items
+returns-in-Some-refusal-clause-entered g c = one-entered c.args.who c.ops-end.result c.newly_unassigned-roles.result c.flush_and_mark-settled.result.spares (Refused c.in-Some-refusal.refusal) (ap (λ p. p.parts.entries) c.still.view_is) c.append_after_losses.ensures.items
 
 pub returns-in-Some-refusal-clause-work : goal.returns-in-Some-refusal-clause-work
 returns-in-Some-refusal-clause-work g c = ap (λ p. p.parts.work) c.still.view_is
@@ -306,22 +306,22 @@ pub returns-in-Some-refusal-clause-room : goal.returns-in-Some-refusal-clause-ro
 returns-in-Some-refusal-clause-room g c = step-taken (ap (λ p. p.parts.steps) c.still.view_is) c.requires.room
 
 pub returns-in-Some-refusal-clause-given : goal.returns-in-Some-refusal-clause-given
-returns-in-Some-refusal-clause-given g c = c.settle-settled.ensures.given ∙ ap (λ p. g.B.Bank.given p.parts.bank) c.still.view_is
+returns-in-Some-refusal-clause-given g c = c.flush_and_mark-settled.ensures.given ∙ ap (λ p. g.B.Bank.given p.parts.bank) c.still.view_is
 
 pub returns-clause-entered : goal.returns-clause-entered
-returns-clause-entered g c = step-behind c.args.who c.ops-end.result c.newly_unassigned-roles.result c.settle-settled.result.spares ResyncEnded (ap (λ p. p.parts.entries) c.still.view_is) c.all_left-left.ensures c.append_after_losses-2.ensures.items
+returns-clause-entered g c = step-behind c.args.who c.ops-end.result c.newly_unassigned-roles.result c.flush_and_mark-settled.result.spares ResyncEnded (ap (λ p. p.parts.entries) c.still.view_is) c.all_left-left.ensures c.append_after_losses-2.ensures.items
 
 pub returns-clause-work : goal.returns-clause-work
 returns-clause-work g c = ap (λ (w : Work). record w { resync = None }) (ap (λ p. p.parts.work) c.still.view_is)
 
 pub returns-clause-closable : goal.returns-clause-closable
-returns-clause-closable g c = λ none. inr (inr (c.settle-settled.ensures.clean c.in_default-refusal.is refl))
+returns-clause-closable g c = λ none. inr (inr (c.flush_and_mark-settled.ensures.clean c.in_default-refusal.is refl))
 
 pub returns-clause-clean : goal.returns-clause-clean
-returns-clause-clean g c = c.settle-settled.ensures.clean c.in_default-refusal.is refl
+returns-clause-clean g c = c.flush_and_mark-settled.ensures.clean c.in_default-refusal.is refl
 
 pub returns-clause-room : goal.returns-clause-room
 returns-clause-room g c = step-taken (ap (λ p. p.parts.steps) c.still.view_is) c.requires.room
 
 pub returns-clause-given : goal.returns-clause-given
-returns-clause-given g c = c.settle-settled.ensures.given ∙ ap (λ p. g.B.Bank.given p.parts.bank) c.still.view_is
+returns-clause-given g c = c.flush_and_mark-settled.ensures.given ∙ ap (λ p. g.B.Bank.given p.parts.bank) c.still.view_is

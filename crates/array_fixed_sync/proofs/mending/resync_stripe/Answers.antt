@@ -81,12 +81,12 @@ invariant_of-still g c =
     let goes : IsCallGoing a.epoch.entries.items c.args.who = subst (λ p. IsCallGoing p.parts.entries c.args.who) (sym c.still.view_is) c.requires.open in
     let left : HasStripeLeft a.work.resync a.members = subst (λ p. HasStripeLeft p.parts.work.resync p.parts.members) (sym c.still.view_is) c.requires.pending in
     let some : 1 ≤ a.steps = subst (λ p. 1 ≤ p.parts.steps) (sym c.still.view_is) c.requires.room in
-    let did = c.mend-mended.ensures in
-    let m = c.mend-mended.new.members in
+    let did = c.resync_rows-mended.ensures in
+    let m = c.resync_rows-mended.new.members in
     let before = g.B.Bank.faults_of a.bank in
-    let after = g.B.Bank.faults_of c.mend-mended.new.bank in
+    let after = g.B.Bank.faults_of c.resync_rows-mended.new.bank in
     let roles = c.newly_unassigned-roles.result in
-    let spares = c.mend-mended.result.spares in
+    let spares = c.resync_rows-mended.result.spares in
     let end = c.ops-end.result in
     let stripe = c.unwrap_or-stripe.result in
     let next = next-stripe a.work.resync a.members stripe left c.unwrap_or-stripe.ensures in
@@ -95,7 +95,7 @@ invariant_of-still g c =
     let refusal = c.in-Some-refusal.refusal in
     let since : AreLostSince a.members m roles spares before after = lost-since given a.members m shape.disks c.unassigned_roles-before.result roles spares before after here.placed did.moved did.failed
     (ap (λ (s : Shape). s.disks) c.shape_in-shape.ensures ∙ sym (count-still a.members.newest here.still)) c.unassigned_roles-before.ensures c.newly_unassigned-roles.ensures in
-    let leaves : IsResyncingStill g.B.Bank.tells given (g.B.Bank.tape a.bank) (g.B.Bank.tape c.mend-mended.new.bank) a.members m roles spares before after shape stripe = record {
+    let leaves : IsResyncingStill g.B.Bank.tells given (g.B.Bank.tape a.bank) (g.B.Bank.tape c.resync_rows-mended.new.bank) a.members m roles spares before after shape stripe = record {
       moved = did.moved;
       since = since;
       grows = did.grows;
@@ -109,10 +109,10 @@ invariant_of-still g c =
     } in
     with-buffers (omega (arith, was.rows_fit, did.rows)) (rw did.buffer was.buffer_fits) (ready (entries_of c.args.who end (losses_of roles spares ++ Refused refusal ∷ [])) was (rows-moved given a.members m did.moved)
     (mend-refused a.ahead c.args.who end roles spares shape stripe was.kept does goes c.requires.caller c.ops-end.ensures.count c.shape_in-shape.ensures next.0 leaves refusal
-    (refused-of (IsUnwritten shape false m) c.mend-mended.result.refusal refusal c.in-Some-refusal.is did.refused))
+    (refused-of (IsUnwritten shape false m) c.resync_rows-mended.result.refusal refusal c.in-Some-refusal.is did.refused))
     (plain-refused was c.args.who end goes c.requires.caller c.ops-end.ensures.count did.grows did.moved since refusal
     (unmended-plain given a.members m did.moved a.work.resync (visible_size a.members a.limit) stripe shape refusal c.shape_in-shape.ensures next.0
-    (refused-of (IsUnwritten shape false m) c.mend-mended.result.refusal refusal c.in-Some-refusal.is did.refused)))
+    (refused-of (IsUnwritten shape false m) c.resync_rows-mended.result.refusal refusal c.in-Some-refusal.is did.refused)))
     did.counts (behind-keeps c.args.who end roles spares (Refused refusal ∷ []) (alone-keeps c.args.who end (Refused refusal) (λ n. refl) (λ limit. refl)))
     did.given (scope-same given a.backup did.given c.append_after_losses.ensures.uuid c.append_after_losses.ensures.given) c.append_after_losses.ensures.first refl c.append_after_losses.ensures.items
     (omega (arith, c.append_after_losses.ensures.room, was.room_left, some)))
@@ -123,18 +123,18 @@ returns-in-Some-refusal-clause-stepped g c =
     let here = was.kept.members_are in
     let a = c.still.inside in
     let given = g.B.Bank.given a.bank in
-    let did = c.mend-mended.ensures in
-    let m = c.mend-mended.new.members in
+    let did = c.resync_rows-mended.ensures in
+    let m = c.resync_rows-mended.new.members in
     let before = g.B.Bank.faults_of a.bank in
-    let after = g.B.Bank.faults_of c.mend-mended.new.bank in
+    let after = g.B.Bank.faults_of c.resync_rows-mended.new.bank in
     let roles = c.newly_unassigned-roles.result in
-    let spares = c.mend-mended.result.spares in
+    let spares = c.resync_rows-mended.result.spares in
     let end = c.ops-end.result in
     let refusal = c.in-Some-refusal.refusal in
     let since : AreLostSince a.members m roles spares before after = lost-since given a.members m c.shape_in-shape.result.disks c.unassigned_roles-before.result roles spares before after here.placed did.moved did.failed
     (ap (λ (s : Shape). s.disks) c.shape_in-shape.ensures ∙ sym (count-still a.members.newest here.still)) c.unassigned_roles-before.ensures c.newly_unassigned-roles.ensures in
     rw (← c.still.view_is) (stepped did.grows (shapes-moved did.moved)
-    (ended-behind (g.B.Bank.tape c.mend-mended.new.bank) c.append_after_losses.new.epoch.first a.epoch.entries.items c.args.who end (losses_of roles spares) (Refused refusal) c.append_after_losses.ensures.items c.ops-end.ensures.count)
+    (ended-behind (g.B.Bank.tape c.resync_rows-mended.new.bank) c.append_after_losses.new.epoch.first a.epoch.entries.items c.args.who end (losses_of roles spares) (Refused refusal) c.append_after_losses.ensures.items c.ops-end.ensures.count)
     did.failed.roles
     (losses-behind a.members m before after a.epoch.entries.items a.epoch.entries.items c.append_after_losses.new.epoch.entries.items c.args.who end roles spares (Refused refusal) since tt refl c.append_after_losses.ensures.items)
     did.counts
@@ -146,12 +146,12 @@ returns-in-Some-refusal-clause-stays g c =
     let was = c.still.invariant in
     let here = was.kept.members_are in
     let a = c.still.inside in
-    let did = c.mend-mended.ensures in
-    let m = c.mend-mended.new.members in
+    let did = c.resync_rows-mended.ensures in
+    let m = c.resync_rows-mended.new.members in
     let before = g.B.Bank.faults_of a.bank in
-    let after = g.B.Bank.faults_of c.mend-mended.new.bank in
+    let after = g.B.Bank.faults_of c.resync_rows-mended.new.bank in
     let roles = c.newly_unassigned-roles.result in
-    let spares = c.mend-mended.result.spares in
+    let spares = c.resync_rows-mended.result.spares in
     let since : AreLostSince a.members m roles spares before after = lost-since (g.B.Bank.given a.bank) a.members m c.shape_in-shape.result.disks c.unassigned_roles-before.result roles spares before after here.placed did.moved did.failed
     (ap (λ (s : Shape). s.disks) c.shape_in-shape.ensures ∙ sym (count-still a.members.newest here.still)) c.unassigned_roles-before.ensures c.newly_unassigned-roles.ensures in
     rw (← c.still.view_is) (kept-more (planned-same a.ahead (shapes-moved did.moved))
@@ -160,19 +160,19 @@ returns-in-Some-refusal-clause-stays g c =
 pub returns-in-Some-refusal-clause-caused : goal.returns-in-Some-refusal-clause-caused
 returns-in-Some-refusal-clause-caused g c =
     let a = c.still.inside in
-    let m = c.mend-mended.new.members in
+    let m = c.resync_rows-mended.new.members in
     let refusal = c.in-Some-refusal.refusal in
     let shape = c.shape_in-shape.result in
-    let why = refused-of (IsUnwritten shape false m) c.mend-mended.result.refusal refusal c.in-Some-refusal.is c.mend-mended.ensures.refused in
+    let why = refused-of (IsUnwritten shape false m) c.resync_rows-mended.result.refusal refusal c.in-Some-refusal.is c.resync_rows-mended.ensures.refused in
     rw (← c.still.view_is) (refused-for (list_length a.members.newest) 0 IsUnmendable a.members m refusal (unwritten-of shape false m refusal why) (omega arith)
-    (unmendable-of shape m refusal (c.shape_in-shape.ensures ∙ sym c.mend-mended.ensures.moved.shape) why))
+    (unmendable-of shape m refusal (c.shape_in-shape.ensures ∙ sym c.resync_rows-mended.ensures.moved.shape) why))
 
 pub returns-in-Some-refusal-clause-first : goal.returns-in-Some-refusal-clause-first
 returns-in-Some-refusal-clause-first g c =
-    let m = c.mend-mended.new.members in
+    let m = c.resync_rows-mended.new.members in
     let refusal = c.in-Some-refusal.refusal in
     rw (← c.still.view_is) (subst (λ (s : Shape). write_refusal s false m ≡ Some refusal) c.shape_in-shape.ensures
-    (refused-of (λ r. write_refusal c.shape_in-shape.result false m ≡ Some r) c.mend-mended.result.refusal refusal c.in-Some-refusal.is c.mend-mended.ensures.first))
+    (refused-of (λ r. write_refusal c.shape_in-shape.result false m ≡ Some r) c.resync_rows-mended.result.refusal refusal c.in-Some-refusal.is c.resync_rows-mended.ensures.first))
 
 -- ---- it is mended
 
@@ -185,12 +185,12 @@ invariant_of-still-2 g c =
     let goes : IsCallGoing a.epoch.entries.items c.args.who = subst (λ p. IsCallGoing p.parts.entries c.args.who) (sym c.still.view_is) c.requires.open in
     let pending : HasStripeLeft a.work.resync a.members = subst (λ p. HasStripeLeft p.parts.work.resync p.parts.members) (sym c.still.view_is) c.requires.pending in
     let some : 1 ≤ a.steps = subst (λ p. 1 ≤ p.parts.steps) (sym c.still.view_is) c.requires.room in
-    let did = c.mend-mended.ensures in
-    let m = c.mend-mended.new.members in
+    let did = c.resync_rows-mended.ensures in
+    let m = c.resync_rows-mended.new.members in
     let before = g.B.Bank.faults_of a.bank in
-    let after = g.B.Bank.faults_of c.mend-mended.new.bank in
+    let after = g.B.Bank.faults_of c.resync_rows-mended.new.bank in
     let roles = c.newly_unassigned-roles.result in
-    let spares = c.mend-mended.result.spares in
+    let spares = c.resync_rows-mended.result.spares in
     let end = c.ops-end.result in
     let stripe = c.unwrap_or-stripe.result in
     let next = next-stripe a.work.resync a.members stripe pending c.unwrap_or-stripe.ensures in
@@ -199,7 +199,7 @@ invariant_of-still-2 g c =
     let left = c.all_left-left.result in
     let since : AreLostSince a.members m roles spares before after = lost-since given a.members m shape.disks c.unassigned_roles-before.result roles spares before after here.placed did.moved did.failed
     (ap (λ (s : Shape). s.disks) c.shape_in-shape.ensures ∙ sym (count-still a.members.newest here.still)) c.unassigned_roles-before.ensures c.newly_unassigned-roles.ensures in
-    let leaves : IsResyncingStill g.B.Bank.tells given (g.B.Bank.tape a.bank) (g.B.Bank.tape c.mend-mended.new.bank) a.members m roles spares before after shape stripe = record {
+    let leaves : IsResyncingStill g.B.Bank.tells given (g.B.Bank.tape a.bank) (g.B.Bank.tape c.resync_rows-mended.new.bank) a.members m roles spares before after shape stripe = record {
       moved = did.moved;
       since = since;
       grows = did.grows;
@@ -225,18 +225,18 @@ returns-clause-stepped g c =
     let here = was.kept.members_are in
     let a = c.still.inside in
     let given = g.B.Bank.given a.bank in
-    let did = c.mend-mended.ensures in
-    let m = c.mend-mended.new.members in
+    let did = c.resync_rows-mended.ensures in
+    let m = c.resync_rows-mended.new.members in
     let before = g.B.Bank.faults_of a.bank in
-    let after = g.B.Bank.faults_of c.mend-mended.new.bank in
+    let after = g.B.Bank.faults_of c.resync_rows-mended.new.bank in
     let roles = c.newly_unassigned-roles.result in
-    let spares = c.mend-mended.result.spares in
+    let spares = c.resync_rows-mended.result.spares in
     let end = c.ops-end.result in
     let event = Step ResyncStripe c.all_left-left.result in
     let since : AreLostSince a.members m roles spares before after = lost-since given a.members m c.shape_in-shape.result.disks c.unassigned_roles-before.result roles spares before after here.placed did.moved did.failed
     (ap (λ (s : Shape). s.disks) c.shape_in-shape.ensures ∙ sym (count-still a.members.newest here.still)) c.unassigned_roles-before.ensures c.newly_unassigned-roles.ensures in
     rw (← c.still.view_is) (stepped did.grows (shapes-moved did.moved)
-    (ended-behind (g.B.Bank.tape c.mend-mended.new.bank) c.append_after_losses-2.new.epoch.first a.epoch.entries.items c.args.who end (losses_of roles spares) event c.append_after_losses-2.ensures.items c.ops-end.ensures.count)
+    (ended-behind (g.B.Bank.tape c.resync_rows-mended.new.bank) c.append_after_losses-2.new.epoch.first a.epoch.entries.items c.args.who end (losses_of roles spares) event c.append_after_losses-2.ensures.items c.ops-end.ensures.count)
     did.failed.roles
     (losses-behind a.members m before after a.epoch.entries.items a.epoch.entries.items c.append_after_losses-2.new.epoch.entries.items c.args.who end roles spares event since tt refl c.append_after_losses-2.ensures.items)
     did.counts
@@ -249,12 +249,12 @@ returns-clause-left g c =
     let here = was.kept.members_are in
     let a = c.still.inside in
     let pending : HasStripeLeft a.work.resync a.members = subst (λ p. HasStripeLeft p.parts.work.resync p.parts.members) (sym c.still.view_is) c.requires.pending in
-    let did = c.mend-mended.ensures in
-    let m = c.mend-mended.new.members in
+    let did = c.resync_rows-mended.ensures in
+    let m = c.resync_rows-mended.new.members in
     let before = g.B.Bank.faults_of a.bank in
-    let after = g.B.Bank.faults_of c.mend-mended.new.bank in
+    let after = g.B.Bank.faults_of c.resync_rows-mended.new.bank in
     let roles = c.newly_unassigned-roles.result in
-    let spares = c.mend-mended.result.spares in
+    let spares = c.resync_rows-mended.result.spares in
     let stripe = c.unwrap_or-stripe.result in
     let next = next-stripe a.work.resync a.members stripe pending c.unwrap_or-stripe.ensures in
     let since : AreLostSince a.members m roles spares before after = lost-since (g.B.Bank.given a.bank) a.members m c.shape_in-shape.result.disks c.unassigned_roles-before.result roles spares before after here.placed did.moved did.failed
@@ -272,10 +272,10 @@ returns-clause-first g c = rw (← c.still.view_is) (sym c.in_default.ensures.fi
 -- ---- the call goes on
 
 pub returns-in-Some-refusal-clause-open : goal.returns-in-Some-refusal-clause-open
-returns-in-Some-refusal-clause-open g c = step-going c.args.who c.ops-end.result c.newly_unassigned-roles.result c.mend-mended.result.spares (Refused c.in-Some-refusal.refusal) c.requires.open tt (ap (λ p. p.parts.entries) c.still.view_is) c.append_after_losses.ensures.items
+returns-in-Some-refusal-clause-open g c = step-going c.args.who c.ops-end.result c.newly_unassigned-roles.result c.resync_rows-mended.result.spares (Refused c.in-Some-refusal.refusal) c.requires.open tt (ap (λ p. p.parts.entries) c.still.view_is) c.append_after_losses.ensures.items
 
 pub returns-clause-open : goal.returns-clause-open
-returns-clause-open g c = step-going c.args.who c.ops-end.result c.newly_unassigned-roles.result c.mend-mended.result.spares (Step ResyncStripe c.all_left-left.result) c.requires.open tt (ap (λ p. p.parts.entries) c.still.view_is) c.append_after_losses-2.ensures.items
+returns-clause-open g c = step-going c.args.who c.ops-end.result c.newly_unassigned-roles.result c.resync_rows-mended.result.spares (Step ResyncStripe c.all_left-left.result) c.requires.open tt (ap (λ p. p.parts.entries) c.still.view_is) c.append_after_losses-2.ensures.items
 
 -- ---- what is handed down, and what is left of it
 
@@ -305,8 +305,8 @@ resync_rows-mended-requires-clause-buffer g c = c.still.invariant.buffer_fits
 
 pub newly_unassigned-roles-requires-clause-known : goal.newly_unassigned-roles-requires-clause-known
 newly_unassigned-roles-requires-clause-known g c =
-    let moved = c.mend-mended.ensures.moved in
-    shape-known (g.B.Bank.given c.still.inside.bank) c.mend-mended.new.members moved.placed c.shape_in-shape.result (c.shape_in-shape.ensures ∙ sym moved.shape)
+    let moved = c.resync_rows-mended.ensures.moved in
+    shape-known (g.B.Bank.given c.still.inside.bank) c.resync_rows-mended.new.members moved.placed c.shape_in-shape.result (c.shape_in-shape.ensures ∙ sym moved.shape)
 
 pub newly_unassigned-roles-requires-clause-few : goal.newly_unassigned-roles-requires-clause-few
 newly_unassigned-roles-requires-clause-few g c = shape-few (g.B.Bank.given c.still.inside.bank) c.still.inside.members c.still.invariant.kept.members_are.placed c.shape_in-shape.result c.shape_in-shape.ensures
@@ -321,7 +321,7 @@ pub returns-in-Some-refusal-clause-entered : goal.returns-in-Some-refusal-clause
 returns-in-Some-refusal-clause-entered g c =
     let end = c.ops-end.result in
     let roles = c.newly_unassigned-roles.result in
-    let spares = c.mend-mended.result.spares in
+    let spares = c.resync_rows-mended.result.spares in
     let refusal = c.in-Some-refusal.refusal in
     record { roles = roles; spares = spares; end = end; is = c.append_after_losses.ensures.items ∙ ap (λ p. p.parts.entries ++ entries_of c.args.who end (losses_of roles spares ++ Refused refusal ∷ [])) c.still.view_is }
 
@@ -332,7 +332,7 @@ pub returns-in-Some-refusal-clause-room : goal.returns-in-Some-refusal-clause-ro
 returns-in-Some-refusal-clause-room g c = one-less c.still.inside.steps c.args.still.now.parts.steps (ap (λ p. p.parts.steps) c.still.view_is) c.requires.room
 
 pub returns-in-Some-refusal-clause-given : goal.returns-in-Some-refusal-clause-given
-returns-in-Some-refusal-clause-given g c = c.mend-mended.ensures.given ∙ ap (λ p. g.B.Bank.given p.parts.bank) c.still.view_is
+returns-in-Some-refusal-clause-given g c = c.resync_rows-mended.ensures.given ∙ ap (λ p. g.B.Bank.given p.parts.bank) c.still.view_is
 
 pub overflow_add-still : goal.overflow_add-still
 overflow_add-still g c =
@@ -341,24 +341,24 @@ overflow_add-still g c =
     stripe-fits (g.B.Bank.given a.bank) a.members c.still.invariant.kept.members_are.placed c.unwrap_or-stripe.result (next-stripe a.work.resync a.members c.unwrap_or-stripe.result left c.unwrap_or-stripe.ensures).1
 
 pub all_left-left-requires-clause-shape : goal.all_left-left-requires-clause-shape
-all_left-left-requires-clause-shape g c = valid (g.B.Bank.given c.still.inside.bank) c.mend-mended.new.members c.mend-mended.ensures.moved.placed
+all_left-left-requires-clause-shape g c = valid (g.B.Bank.given c.still.inside.bank) c.resync_rows-mended.new.members c.resync_rows-mended.ensures.moved.placed
 
 pub all_left-left-requires-clause-size : goal.all_left-left-requires-clause-size
-all_left-left-requires-clause-size g c = short (g.B.Bank.given c.still.inside.bank) c.mend-mended.new.members c.mend-mended.ensures.moved.placed
+all_left-left-requires-clause-size g c = short (g.B.Bank.given c.still.inside.bank) c.resync_rows-mended.new.members c.resync_rows-mended.ensures.moved.placed
 
 pub all_left-left-requires-clause-roles : goal.all_left-left-requires-clause-roles
 all_left-left-requires-clause-roles g c =
-    let m = c.mend-mended.new.members in
-    shape-known (g.B.Bank.given c.still.inside.bank) m c.mend-mended.ensures.moved.placed (shape_of m.newest) refl
+    let m = c.resync_rows-mended.new.members in
+    shape-known (g.B.Bank.given c.still.inside.bank) m c.resync_rows-mended.ensures.moved.placed (shape_of m.newest) refl
 
 pub all_left-left-requires-clause-progress : goal.all_left-left-requires-clause-progress
 all_left-left-requires-clause-progress g c =
     let a = c.still.inside in
     let left : HasStripeLeft a.work.resync a.members = subst (λ p. HasStripeLeft p.parts.work.resync p.parts.members) (sym c.still.view_is) c.requires.pending in
-    stripe-more c.unwrap_or-stripe.result c.mend-mended.ensures.moved (next-stripe a.work.resync a.members c.unwrap_or-stripe.result left c.unwrap_or-stripe.ensures).1
+    stripe-more c.unwrap_or-stripe.result c.resync_rows-mended.ensures.moved (next-stripe a.work.resync a.members c.unwrap_or-stripe.result left c.unwrap_or-stripe.ensures).1
 
 pub all_left-left-requires-clause-sound : goal.all_left-left-requires-clause-sound
-all_left-left-requires-clause-sound g c = sound-behind c.still.inside.ahead c.mend-mended.ensures.moved c.still.invariant.planned
+all_left-left-requires-clause-sound g c = sound-behind c.still.inside.ahead c.resync_rows-mended.ensures.moved c.still.invariant.planned
 
 pub append_after_losses-requires-2-clause-room : goal.append_after_losses-requires-2-clause-room
 append_after_losses-requires-2-clause-room g c = room-of-step c.still.inside.steps c.still.inside.epoch.entries.room c.still.invariant.room_left (subst (λ p. 1 ≤ p.parts.steps) (sym c.still.view_is) c.requires.room)
@@ -371,7 +371,7 @@ returns-clause-entered g c =
     let who = c.args.who in
     let end = c.ops-end.result in
     let roles = c.newly_unassigned-roles.result in
-    let spares = c.mend-mended.result.spares in
+    let spares = c.resync_rows-mended.result.spares in
     record {
       roles = roles;
       spares = spares;
@@ -391,27 +391,27 @@ returns-clause-work g c =
 pub returns-clause-closable : goal.returns-clause-closable
 returns-clause-closable g c = λ none.
     let stripe = c.unwrap_or-stripe.result in
-    absurd (pending-left (record c.still.inside.work { resync = Some (stripe + 1) }) c.mend-mended.new.members c.still.inside.ahead (stripe + 1) refl none)
+    absurd (pending-left (record c.still.inside.work { resync = Some (stripe + 1) }) c.resync_rows-mended.new.members c.still.inside.ahead (stripe + 1) refl none)
 
 pub returns-clause-dirty : goal.returns-clause-dirty
-returns-clause-dirty g c = c.mend-mended.ensures.dirty
+returns-clause-dirty g c = c.resync_rows-mended.ensures.dirty
 
 pub returns-clause-room : goal.returns-clause-room
 returns-clause-room g c = one-less c.still.inside.steps c.args.still.now.parts.steps (ap (λ p. p.parts.steps) c.still.view_is) c.requires.room
 
 pub returns-clause-given : goal.returns-clause-given
-returns-clause-given g c = c.mend-mended.ensures.given ∙ ap (λ p. g.B.Bank.given p.parts.bank) c.still.view_is
+returns-clause-given g c = c.resync_rows-mended.ensures.given ∙ ap (λ p. g.B.Bank.given p.parts.bank) c.still.view_is
 
 -- ---- what it leaves of the members
 
 pub returns-in-Some-refusal-clause-held : goal.returns-in-Some-refusal-clause-held
-returns-in-Some-refusal-clause-held g c = subst (λ p. AreStillHeld p.parts.members c.mend-mended.new.members) c.still.view_is c.mend-mended.ensures.moved.held
+returns-in-Some-refusal-clause-held g c = subst (λ p. AreStillHeld p.parts.members c.resync_rows-mended.new.members) c.still.view_is c.resync_rows-mended.ensures.moved.held
 
 pub returns-in-Some-refusal-clause-spares : goal.returns-in-Some-refusal-clause-spares
-returns-in-Some-refusal-clause-spares g c = subst (λ p. AreSparesFewer p.parts.members c.mend-mended.new.members) c.still.view_is c.mend-mended.ensures.moved.fewer
+returns-in-Some-refusal-clause-spares g c = subst (λ p. AreSparesFewer p.parts.members c.resync_rows-mended.new.members) c.still.view_is c.resync_rows-mended.ensures.moved.fewer
 
 pub returns-clause-held : goal.returns-clause-held
-returns-clause-held g c = subst (λ p. AreStillHeld p.parts.members c.mend-mended.new.members) c.still.view_is c.mend-mended.ensures.moved.held
+returns-clause-held g c = subst (λ p. AreStillHeld p.parts.members c.resync_rows-mended.new.members) c.still.view_is c.resync_rows-mended.ensures.moved.held
 
 pub returns-clause-spares : goal.returns-clause-spares
-returns-clause-spares g c = subst (λ p. AreSparesFewer p.parts.members c.mend-mended.new.members) c.still.view_is c.mend-mended.ensures.moved.fewer
+returns-clause-spares g c = subst (λ p. AreSparesFewer p.parts.members c.resync_rows-mended.new.members) c.still.view_is c.resync_rows-mended.ensures.moved.fewer

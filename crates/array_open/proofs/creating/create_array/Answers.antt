@@ -93,7 +93,7 @@ pub returns-clause-untouched : goal.returns-clause-untouched
 returns-clause-untouched g c =
     back-on c.make.new.bank c.run_still.result (λ b. (refusal : Refusal) → create_refusal (g.B.Bank.given c.args.bank) c.args.backup c.args.spec ≡ Some refusal → b ≡ c.args.bank) c.run_still.ensures.handed_back c.make.ensures.untouched
 
-pub returns-clause-first_write_refusal : goal.returns-clause-first_write_refusal
-returns-clause-first_write_refusal g c =
+pub returns-clause-unwritten : goal.returns-clause-unwritten
+returns-clause-unwritten g c =
     err-then c.run_still.result (λ e. e.1 ≡ NoMemory) (λ e. (slot : ℕ) → e.1 ≡ Refused (UuidInUse slot) → g.B.Bank.tells → OnlyFlushesAdded (g.B.Bank.tape c.args.bank) (g.B.Bank.tape e.0))
     (λ e is slot was t. absurd (never-refused (UuidInUse slot) (sym is ∙ was))) c.run_still.ensures.short

@@ -78,10 +78,10 @@ returns-clause-answered g c = elim c.match-array.branch [
   | in-Moving w ↦ rw (← c.array.view_is, w.in-Moving.is, w.array-inside-is, w.check_moving.ensures.same, w.result-is, w.into-is) w.read-done-in-Moving.ensures.answered
 ]
 
-pub returns-clause-first_read_refusal : goal.returns-clause-first_read_refusal
-returns-clause-first_read_refusal g c = elim c.match-array.branch [
-  | in-Still w ↦ rw (w.result-is, w.into-is) w.read-done.ensures.first_read_refusal
-  | in-Moving w ↦ rw (w.result-is, w.into-is) w.read-done-in-Moving.ensures.first_read_refusal
+pub returns-clause-unread : goal.returns-clause-unread
+returns-clause-unread g c = elim c.match-array.branch [
+  | in-Still w ↦ rw (w.result-is, w.into-is) w.read-done.ensures.unread
+  | in-Moving w ↦ rw (w.result-is, w.into-is) w.read-done-in-Moving.ensures.unread
 ]
 
 pub returns-clause-unchanged : goal.returns-clause-unchanged

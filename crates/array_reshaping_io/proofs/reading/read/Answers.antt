@@ -156,9 +156,9 @@ invariant_of-moving-then-asked-eq0 g c =
     c.args.who end (Read c.args.at body) was.kept (begins-going a.epoch.entries.items c.args.who number) (not_254 c.args.who.caller c.requires.caller) c.ops-end-then-asked-eq0.ensures.count (read-quiet c.args.at body) (λ told is. is)
     (none-read was.kept was.limited c.args.at body none within) in
     ready (entries_of c.args.who end (Read c.args.at body ∷ [])) was (grows-none (λ t. refl)) (shapes-same a.members.newest) kept
-    refl (never-falls _) (alone-keeps c.args.who end (Read c.args.at body) (λ n. refl) (λ limit. refl)) (λ none whole. whole) refl (scope-same given (Some a.backup) refl c.enter-then-asked-eq0.ensures.uuid c.enter-then-asked-eq0.ensures.given)
-    c.enter-then-asked-eq0.ensures.first c.make_room.ensures.items c.enter-then-asked-eq0.ensures.items
-    (omega (arith, c.enter-then-asked-eq0.ensures.room, c.in-Ok-make_room.ensures.ok))
+    refl (never-falls _) (alone-keeps c.args.who end (Read c.args.at body) (λ n. refl) (λ limit. refl)) (λ none whole. whole) refl (scope-same given (Some a.backup) refl c.append_entry-then-asked-eq0.ensures.uuid c.append_entry-then-asked-eq0.ensures.given)
+    c.append_entry-then-asked-eq0.ensures.first c.make_room.ensures.items c.append_entry-then-asked-eq0.ensures.items
+    (omega (arith, c.append_entry-then-asked-eq0.ensures.room, c.in-Ok-make_room.ensures.ok))
 
 pub returns-then-asked-eq0-clause-answered : goal.returns-then-asked-eq0-clause-answered
 returns-then-asked-eq0-clause-answered g c =
@@ -170,8 +170,8 @@ returns-then-asked-eq0-clause-answered g c =
     let zero = c.if-asked-eq0.true in
     let same : body ≡ sectors_of c.args.into.now =
     c.from_bytes-body.ensures ∙ no-sectors c.in-Ok.bytes.items (ap (λ (n : ℕ). n / 512) c.in-Ok.ensures.len ∙ zero) ∙ sym (no-sectors c.args.into.now zero) in
-    rw (← c.moving.view_is) (replied (list_length a.members.newest) (AsksRead c.args.at count) c.args.who a.epoch.entries.items c.enter-then-asked-eq0.new.epoch.entries.items end [] (Read c.args.at (sectors_of c.args.into.now))
-    (c.enter-then-asked-eq0.ensures.items ∙ ap (λ (l : List Entry). l ++ entries_of c.args.who end (Read c.args.at body ∷ [])) c.make_room.ensures.items
+    rw (← c.moving.view_is) (replied (list_length a.members.newest) (AsksRead c.args.at count) c.args.who a.epoch.entries.items c.append_entry-then-asked-eq0.new.epoch.entries.items end [] (Read c.args.at (sectors_of c.args.into.now))
+    (c.append_entry-then-asked-eq0.ensures.items ∙ ap (λ (l : List Entry). l ++ entries_of c.args.who end (Read c.args.at body ∷ [])) c.make_room.ensures.items
     ∙ ap (λ (b : List Sector). a.epoch.entries.items ++ entries_of c.args.who end (Read c.args.at b ∷ [])) same)
     number (λ call. (refl, length-sectors_of c.args.into.now)) (inside-losses c.args.who end [] tt) (torn-losses (AsksRead c.args.at count) c.args.who end [] tt))
 
@@ -185,22 +185,22 @@ returns-then-asked-eq0-clause-called g c =
     let event = Read c.args.at c.from_bytes-body.result in
     called-over g.B.Bank.given g.B.Bank.tape g.B.Bank.faults_of c.moving.view_is (record {
       grows = grows-none (λ t. refl);
-      ended = ended-behind (g.B.Bank.tape a.bank) c.enter-then-asked-eq0.new.epoch.first c.make_room.new.self.items c.args.who end [] event c.enter-then-asked-eq0.ensures.items c.ops-end-then-asked-eq0.ensures.count;
+      ended = ended-behind (g.B.Bank.tape a.bank) c.append_entry-then-asked-eq0.new.epoch.first c.make_room.new.self.items c.args.who end [] event c.append_entry-then-asked-eq0.ensures.items c.ops-end-then-asked-eq0.ensures.count;
       held = λ role slot held. held;
       spares = λ slot spare. spare;
-      losses = alone-lossless a.members (g.B.Bank.faults_of a.bank) (g.B.Bank.faults_of a.bank) a.epoch.entries.items c.make_room.new.self.items c.enter-then-asked-eq0.new.epoch.entries.items c.args.who end event tt
-          c.make_room.ensures.items c.enter-then-asked-eq0.ensures.items;
+      losses = alone-lossless a.members (g.B.Bank.faults_of a.bank) (g.B.Bank.faults_of a.bank) a.epoch.entries.items c.make_room.new.self.items c.append_entry-then-asked-eq0.new.epoch.entries.items c.args.who end event tt
+          c.make_room.ensures.items c.append_entry-then-asked-eq0.ensures.items;
       never_falls = never-falls _;
       work = refl;
       same = record {
         array = record {
-          uuid = c.enter-then-asked-eq0.ensures.uuid;
-          given = c.enter-then-asked-eq0.ensures.given;
-          first = c.enter-then-asked-eq0.ensures.first;
+          uuid = c.append_entry-then-asked-eq0.ensures.uuid;
+          given = c.append_entry-then-asked-eq0.ensures.given;
+          first = c.append_entry-then-asked-eq0.ensures.first;
           backup = refl;
           shape = refl;
           size = refl;
-          list = list-same given scope a.epoch.first refl (scope-same given (Some a.backup) refl c.enter-then-asked-eq0.ensures.uuid c.enter-then-asked-eq0.ensures.given) c.enter-then-asked-eq0.ensures.first
+          list = list-same given scope a.epoch.first refl (scope-same given (Some a.backup) refl c.append_entry-then-asked-eq0.ensures.uuid c.append_entry-then-asked-eq0.ensures.given) c.append_entry-then-asked-eq0.ensures.first
               (grows-none (λ t. refl)) (λ t. (was.kept.recorded t).begun);
         };
         final = refl;

@@ -280,7 +280,7 @@ invariant_of-moving-2 g c =
       safe = did.safe;
     } in
     let kept = wrote-kept a.course a.ahead (bytes_in a.course.window a.window.items) c.args.who end roles spares at from c.args.past relied begun was.kept goes c.requires.caller c.ops-end-2.ensures.count did.grows was.limited c.in_default.ensures.why.0 c.requires.some fine c.relied_sector-relied.ensures.value stood put
-    (record { bytes = λ i. (c.type_inv.from i).fits; whole = c.requires.whole; put = did.write_listed none; tail = did.tail none; ends = did.ends none; others = did.others; good = did.good none }) in
+    (record { bytes = λ i. (c.type_inv.from i).fits; whole = c.requires.whole; put = did.put none; tail = did.tail none; ends = did.ends none; others = did.others; good = did.good none }) in
     with-rooms did.rows did.buffer did.far_rows did.far_buffer
     (ready (entries_of c.args.who end (losses_of roles spares ++ Wrote at (sectors_of from) ∷ [])) was did.grows (shapes-moved given a.members m did.moved) kept
     refl did.counts (behind-keeps c.args.who end roles spares (Wrote at (sectors_of from)) (λ n. refl) (λ limit. refl))

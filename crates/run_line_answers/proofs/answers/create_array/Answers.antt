@@ -112,7 +112,7 @@ returns-in-Refused-clause-written g c told =
     subst (λ (what : Answered). IsWritten setting (histories_of c.args.epochs.items) (histories_of c.has_room.new.epochs.items) (HasWritten given c.args.backup (AsksCreate c.args.line) what)) (sym c.refused.ensures)
     (create_refused setting (g.B.Bank.tape c.args.bank) refl c.args.epochs.items c.has_room.new.epochs.items c.has_room.ensures.same was (g.B.Bank.faults_of c.args.bank) (g.B.Bank.faults_of left) c.args.line (did.left_tape told)
     (λ refusal is. let same = ap (λ (b : g.row.B.Denot). length (g.B.Bank.tape b)) (did.untouched refusal is) in omega (arith, same)) c.in-Refused.refusal
-    (λ slot is. did.first_write_refusal slot (c.in-Refused.is ∙ ap (λ (r : Refusal). IsRefusedWith r) is) told)
+    (λ slot is. did.unwritten slot (c.in-Refused.is ∙ ap (λ (r : Refusal). IsRefusedWith r) is) told)
     (subst (λ (f : Fault). HasCreateCause g.B.Bank.tells given was c.args.backup (spec_of c.args.line) (g.B.Bank.faults_of c.args.bank) (g.B.Bank.faults_of left) f) c.in-Refused.is did.refused))
 
 pub returns-in-NoMemory-clause-written : goal.returns-in-NoMemory-clause-written

@@ -84,8 +84,8 @@ returns-clause-moved g c =
     let f1 = g.B.Bank.faults_of c.read_touched-read.new.bank in
     let r = c.read_touched-read.result.lost in
     let shape = c.args.shape.now in
-    moved-then given m n c.raise-spares.new.members (moved-lost given shape m n r f0 f1 c.requires.placed (lost-of given shape m n r f0 f1 c.requires.placed c.read_touched-read.ensures.lost) c.requires.unlost)
-    (moved-from given (g.B.Bank.given c.read_touched-read.new.bank) n n c.raise-spares.new.members c.read_touched-read.ensures.given refl c.raise-spares.ensures.moved)
+    moved-then given m n c.mark_dirty-spares.new.members (moved-lost given shape m n r f0 f1 c.requires.placed (lost-of given shape m n r f0 f1 c.requires.placed c.read_touched-read.ensures.lost) c.requires.unlost)
+    (moved-from given (g.B.Bank.given c.read_touched-read.new.bank) n n c.mark_dirty-spares.new.members c.read_touched-read.ensures.given refl c.mark_dirty-spares.ensures.moved)
 
 pub returns-clause-failed : goal.returns-clause-failed
 returns-clause-failed g c =
@@ -94,11 +94,11 @@ returns-clause-failed g c =
     let given = g.B.Bank.given c.args.bank.now in
     let f0 = g.B.Bank.faults_of c.args.bank.now in
     let f1 = g.B.Bank.faults_of c.read_touched-read.new.bank in
-    let f2 = g.B.Bank.faults_of c.raise-spares.new.bank in
+    let f2 = g.B.Bank.faults_of c.mark_dirty-spares.new.bank in
     let r = c.read_touched-read.result.lost in
     let shape = c.args.shape.now in
-    since-then m n c.raise-spares.new.members 0 c.raise-spares.result c.raise-spares.result f0 f1 f2 c.read_touched-read.ensures.lost.never_falls c.raise-spares.ensures.counts
-    (since-lost given shape m n r f0 f1 (lost-of given shape m n r f0 f1 c.requires.placed c.read_touched-read.ensures.lost)) c.raise-spares.ensures.failed (in-second c.raise-spares.result)
+    since-then m n c.mark_dirty-spares.new.members 0 c.mark_dirty-spares.result c.mark_dirty-spares.result f0 f1 f2 c.read_touched-read.ensures.lost.never_falls c.mark_dirty-spares.ensures.counts
+    (since-lost given shape m n r f0 f1 (lost-of given shape m n r f0 f1 c.requires.placed c.read_touched-read.ensures.lost)) c.mark_dirty-spares.ensures.failed (in-second c.mark_dirty-spares.result)
 
 pub returns-clause-read : goal.returns-clause-read
 returns-clause-read g c = λ none told.
@@ -115,10 +115,10 @@ returns-clause-read g c = λ none told.
     let rows = c.read_touched-read.new.rows.items in
     let buffer = c.read_touched-read.new.buffer.items in
     let lost : AreLost given shape m n r f0 f1 = lost-of given shape m n r f0 f1 c.requires.placed did.lost in
-    let moved : IsMoved given n c.raise-spares.new.members = moved-from given given1 n n c.raise-spares.new.members did.given refl c.raise-spares.ensures.moved in
+    let moved : IsMoved given n c.mark_dirty-spares.new.members = moved-from given given1 n n c.mark_dirty-spares.new.members did.given refl c.mark_dirty-spares.ensures.moved in
     let read = not-err c.read_touched-read.result.answer (sym c.is_err.ensures.value ∙ c.if-is_err.false) did.read told in
     record {
-      held = λ i lt. standing-later given n c.raise-spares.new.members moved lost.placed c0 c0 (λ s k other. refl) shape _ (buffered buffer i) (read i lt).held;
+      held = λ i lt. standing-later given n c.mark_dirty-spares.new.members moved lost.placed c0 c0 (λ s k other. refl) shape _ (buffered buffer i) (read i lt).held;
       listed = λ list stands full. data_read 0 shape c.args.synced (reading_of m) (reading_of n) c0 list rows buffer read
           (λ row has. stands row has (did.below row has))
           (λ synced row has. full synced row has (did.below row has));
@@ -126,7 +126,7 @@ returns-clause-read g c = λ none told.
 
 pub returns-clause-below : goal.returns-clause-below
 returns-clause-below g c row has =
-    subst (λ (n : ℕ). row < n) (sym c.raise-spares.ensures.moved.size) (subst (λ (x : Members). row < x.newest.size) (sym c.read_touched-read.ensures.lost.members) (c.read_touched-read.ensures.below row has))
+    subst (λ (n : ℕ). row < n) (sym c.mark_dirty-spares.ensures.moved.size) (subst (λ (x : Members). row < x.newest.size) (sym c.read_touched-read.ensures.lost.members) (c.read_touched-read.ensures.below row has))
 
 pub returns-then-is_err-clause-rise : goal.returns-then-is_err-clause-rise
 returns-then-is_err-clause-rise g c =
@@ -147,7 +147,7 @@ returns-clause-rise g c =
     let tape1 = g.B.Bank.tape c.read_touched-read.new.bank in
     risen-then
     (risen-lost c.args.members.now c.read_touched-read.new.members c.read_touched-read.result.lost tape0 tape1 c.read_touched-read.ensures.lost.members
-    (λ told. let same = ap (λ (l : List Operation). length l) (c.read_touched-read.ensures.tape told) in omega (arith, same))) c.raise-spares.ensures.rise
+    (λ told. let same = ap (λ (l : List Operation). length l) (c.read_touched-read.ensures.tape told) in omega (arith, same))) c.mark_dirty-spares.ensures.rise
 
 pub returns-clause-safe : goal.returns-clause-safe
 returns-clause-safe g c = λ told world ledger room gone unclean safe.
@@ -157,15 +157,15 @@ returns-clause-safe g c = λ told world ledger room gone unclean safe.
     let given1 = g.B.Bank.given c.read_touched-read.new.bank in
     let tape0 = g.B.Bank.tape c.args.bank.now in
     let tape1 = g.B.Bank.tape c.read_touched-read.new.bank in
-    let tape2 = g.B.Bank.tape c.raise-spares.new.bank in
+    let tape2 = g.B.Bank.tape c.mark_dirty-spares.new.bank in
     let did = c.read_touched-read.ensures in
     let one : KeepsSafe world given ledger n tape0 tape1 =
     safe-lost (OpensFit world) world.scope given ledger m n c.read_touched-read.result.lost tape0 tape1 did.lost.members (did.tape told) safe in
     let risen : IsRisen g.B.Bank.tells m n tape0 tape1 = risen-lost m n c.read_touched-read.result.lost tape0 tape1 did.lost.members
     (λ told. let same = ap (λ (l : List Operation). length l) (did.tape told) in omega (arith, same)) in
-    safe-then (OpensFit world) world.scope given ledger n c.raise-spares.new.members tape0 tape1 tape2 one
-    (keeps-from world given given1 ledger c.raise-spares.new.members tape1 tape2 did.given
-    (c.raise-spares.ensures.safe told world ledger (room-then tape2 told room risen) gone unclean (over-at world given given1 ledger n tape1 did.given one.next)))
+    safe-then (OpensFit world) world.scope given ledger n c.mark_dirty-spares.new.members tape0 tape1 tape2 one
+    (keeps-from world given given1 ledger c.mark_dirty-spares.new.members tape1 tape2 did.given
+    (c.mark_dirty-spares.ensures.safe told world ledger (room-then tape2 told room risen) gone unclean (over-at world given given1 ledger n tape1 did.given one.next)))
 
 pub returns-then-is_err-clause-first : goal.returns-then-is_err-clause-first
 returns-then-is_err-clause-first g c = told-first c.first_write_refusal.result c.first_write_refusal.ensures
@@ -188,7 +188,7 @@ returns-then-is_err-clause-dirty g c = λ none.
     (sym c.is_err.ensures.value ∙ c.if-is_err.true) did.answer (sym c.first_write_refusal.ensures ∙ none))
 
 pub returns-clause-first : goal.returns-clause-first
-returns-clause-first g c = many-told _ c.args.shape.now c.args.synced c.raise-spares.new.members c.too_many_of.result c.too_many_of.ensures
+returns-clause-first g c = many-told _ c.args.shape.now c.args.synced c.mark_dirty-spares.new.members c.too_many_of.result c.too_many_of.ensures
 
 pub read_touched-read-requires-clause-rows : goal.read_touched-read-requires-clause-rows
 read_touched-read-requires-clause-rows g c = has-rows (g.B.Bank.given c.args.bank.now) c.args.members.now c.requires.placed c.args.shape.now c.requires.shape
@@ -213,18 +213,18 @@ returns-then-is_err-clause-grows g c = grows-none c.read_touched-read.ensures.ta
 pub returns-clause-grows : goal.returns-clause-grows
 returns-clause-grows g c =
     let early : Grows g.B.Bank.tells (g.B.Bank.tape c.args.bank.now) (g.B.Bank.tape c.read_touched-read.new.bank) = grows-none c.read_touched-read.ensures.tape in
-    grows-then early c.raise-spares.ensures.grows
+    grows-then early c.mark_dirty-spares.ensures.grows
 
 pub returns-clause-others : goal.returns-clause-others
 returns-clause-others g c = λ told.
     let given = g.B.Bank.given c.args.bank.now in
     let tape1 = g.B.Bank.tape c.read_touched-read.new.bank in
-    let tape2 = g.B.Bank.tape c.raise-spares.new.bank in
+    let tape2 = g.B.Bank.tape c.mark_dirty-spares.new.bank in
     subst (λ (l : List Operation). AreOthersPresent (present given l) (present given tape2)) (c.read_touched-read.ensures.tape told)
-    (subst (λ (b : Given). AreOthersPresent (present b tape1) (present b tape2)) c.read_touched-read.ensures.given (c.raise-spares.ensures.others told))
+    (subst (λ (b : Given). AreOthersPresent (present b tape1) (present b tape2)) c.read_touched-read.ensures.given (c.mark_dirty-spares.ensures.others told))
 
 pub returns-clause-counts : goal.returns-clause-counts
-returns-clause-counts g c = λ s. le_trans (c.read_touched-read.ensures.lost.never_falls s) (c.raise-spares.ensures.counts s)
+returns-clause-counts g c = λ s. le_trans (c.read_touched-read.ensures.lost.never_falls s) (c.mark_dirty-spares.ensures.counts s)
 
 pub returns-then-is_err-clause-unused : goal.returns-then-is_err-clause-unused
 returns-then-is_err-clause-unused g c = λ told.
@@ -240,8 +240,8 @@ returns-clause-unused g c = λ told.
     let r = c.read_touched-read.result.lost in
     let shape = c.args.shape.now in
     let did = c.read_touched-read.ensures in
-    named-unused given (g.B.Bank.given c.read_touched-read.new.bank) m n (g.B.Bank.tape c.args.bank.now) (g.B.Bank.tape c.read_touched-read.new.bank) (g.B.Bank.tape c.raise-spares.new.bank) (did.tape told) did.given
-    (moved-lost given shape m n r f0 f1 c.requires.placed (lost-of given shape m n r f0 f1 c.requires.placed did.lost) c.requires.unlost) (c.raise-spares.ensures.rest told)
+    named-unused given (g.B.Bank.given c.read_touched-read.new.bank) m n (g.B.Bank.tape c.args.bank.now) (g.B.Bank.tape c.read_touched-read.new.bank) (g.B.Bank.tape c.mark_dirty-spares.new.bank) (did.tape told) did.given
+    (moved-lost given shape m n r f0 f1 c.requires.placed (lost-of given shape m n r f0 f1 c.requires.placed did.lost) c.requires.unlost) (c.mark_dirty-spares.ensures.rest told)
 
 pub read_touched-read-requires-clause-few : goal.read_touched-read-requires-clause-few
 read_touched-read-requires-clause-few g c = c.requires.few
@@ -294,19 +294,19 @@ mark_dirty-spares-requires-clause-slots g c = subst (λ (b : Given). b.slots ≤
 
 pub too_many_of-requires-clause-roles : goal.too_many_of-requires-clause-roles
 too_many_of-requires-clause-roles g c =
-    let did = c.raise-spares.ensures.moved in
-    disks-within (g.B.Bank.given c.read_touched-read.new.bank) c.raise-spares.new.members did.placed c.args.shape.now
-    (alike-force c.read_touched-read.new.members.newest c.raise-spares.new.members.newest did.reshape did.shape did.size c.args.shape.now (subst (λ (x : Members). IsInForce x.newest c.args.shape.now) (sym c.read_touched-read.ensures.lost.members) c.requires.shape))
+    let did = c.mark_dirty-spares.ensures.moved in
+    disks-within (g.B.Bank.given c.read_touched-read.new.bank) c.mark_dirty-spares.new.members did.placed c.args.shape.now
+    (alike-force c.read_touched-read.new.members.newest c.mark_dirty-spares.new.members.newest did.reshape did.shape did.size c.args.shape.now (subst (λ (x : Members). IsInForce x.newest c.args.shape.now) (sym c.read_touched-read.ensures.lost.members) c.requires.shape))
 
 pub returns-clause-refused : goal.returns-clause-refused
 returns-clause-refused g c =
-    lacking-unwritten (DoesWithout c.args.shape.now c.raise-spares.new.members) c.args.shape.now c.args.synced c.raise-spares.new.members c.too_many_of.result c.too_many_of.ensures
+    lacking-unwritten (DoesWithout c.args.shape.now c.mark_dirty-spares.new.members) c.args.shape.now c.args.synced c.mark_dirty-spares.new.members c.too_many_of.result c.too_many_of.ensures
 
 pub returns-clause-dirty : goal.returns-clause-dirty
-returns-clause-dirty g c none = c.raise-spares.ensures.dirty
+returns-clause-dirty g c none = c.mark_dirty-spares.ensures.dirty
 
 pub returns-clause-stays : goal.returns-clause-stays
-returns-clause-stays g c dirty = c.raise-spares.ensures.dirty
+returns-clause-stays g c dirty = c.mark_dirty-spares.ensures.dirty
 
 pub returns-clause-touched : goal.returns-clause-touched
 returns-clause-touched g c = c.read_touched-read.ensures.touched
@@ -315,7 +315,7 @@ pub returns-clause-few : goal.returns-clause-few
 returns-clause-few g c = c.read_touched-read.ensures.few
 
 pub returns-clause-given : goal.returns-clause-given
-returns-clause-given g c = c.raise-spares.ensures.given ∙ c.read_touched-read.ensures.given
+returns-clause-given g c = c.mark_dirty-spares.ensures.given ∙ c.read_touched-read.ensures.given
 
 pub returns-clause-rows : goal.returns-clause-rows
 returns-clause-rows g c = c.read_touched-read.ensures.capacity

@@ -58,8 +58,8 @@ returns-clause-failed g c =
     (g.B.Bank.faults_of c.prepare-begun.new.bank) (g.B.Bank.faults_of c.write_list_rows-done.new.bank) c.prepare-begun.ensures.counts c.write_list_rows-done.ensures.counts
     c.prepare-begun.ensures.failed c.write_list_rows-done.ensures.failed (in-either c.prepare-begun.result.spares c.write_list_rows-done.result.spares)
 
-pub returns-clause-write_listed : goal.returns-clause-write_listed
-returns-clause-write_listed g c = λ ok told list list' w stands.
+pub returns-clause-put : goal.returns-clause-put
+returns-clause-put g c = λ ok told list list' w stands.
     let given = g.B.Bank.given c.args.bank.now in
     let given2 = g.B.Bank.given c.prepare-begun.new.bank in
     let m = c.args.members.now in
@@ -315,8 +315,8 @@ returns-then-is_some-clause-dirty g c = c.prepare-begun.ensures.dirty
 pub returns-then-is_some-clause-torn : goal.returns-then-is_some-clause-torn
 returns-then-is_some-clause-torn g c begun = false-true begun
 
-pub returns-then-is_some-clause-write_listed : goal.returns-then-is_some-clause-write_listed
-returns-then-is_some-clause-write_listed g c none told list list' w stands = absurd (some-none c.prepare-begun.result.refusal (sym c.is_some.ensures ∙ c.if-is_some.true) none)
+pub returns-then-is_some-clause-put : goal.returns-then-is_some-clause-put
+returns-then-is_some-clause-put g c none told list list' w stands = absurd (some-none c.prepare-begun.result.refusal (sym c.is_some.ensures ∙ c.if-is_some.true) none)
 
 pub returns-then-is_some-clause-good : goal.returns-then-is_some-clause-good
 returns-then-is_some-clause-good g c none told = absurd (some-none c.prepare-begun.result.refusal (sym c.is_some.ensures ∙ c.if-is_some.true) none)

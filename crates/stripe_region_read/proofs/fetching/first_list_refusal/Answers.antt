@@ -26,7 +26,7 @@ pub returns-then-is_some-2 : goal.returns-then-is_some-2
 returns-then-is_some-2 c =
     let did = c.stretch_at-stretch.ensures in
     told-unread c.args.members.now c.stretch_at-stretch.result.shape c.args.relied c.relied_rows-rows.result c.loop-at.at c.stretch_at-stretch.result.end did.some did.one c.relied_rows-rows.ensures.rows
-    _ c.args.from c.args.to c.loop-at.invariant.from did.within c.unread-refusal.result (sym c.is_some-in-loop-at.ensures ∙ c.if-is_some-2.true) c.unread-refusal.ensures
+    _ c.args.from c.args.to c.loop-at.invariant.from did.within c.first_read_refusal-refusal.result (sym c.is_some-in-loop-at.ensures ∙ c.if-is_some-2.true) c.first_read_refusal-refusal.ensures
 
 pub loop-at-preserved : goal.loop-at-preserved
 loop-at-preserved c =
@@ -37,7 +37,7 @@ loop-at-preserved c =
       fine = λ x low high. elim (cases_lt x c.loop-at.at) [
         | inl before ↦ was.fine x low before
         | inr here ↦ none-unread c.args.members.now c.stretch_at-stretch.result.shape c.args.relied c.relied_rows-rows.result c.loop-at.at c.stretch_at-stretch.result.end did.some did.one c.relied_rows-rows.ensures.rows
-            c.unread-refusal.result (sym c.is_some-in-loop-at.ensures ∙ c.if-is_some-2.false) c.unread-refusal.ensures x here high
+            c.first_read_refusal-refusal.result (sym c.is_some-in-loop-at.ensures ∙ c.if-is_some-2.false) c.first_read_refusal-refusal.ensures x here high
       ];
     }
 

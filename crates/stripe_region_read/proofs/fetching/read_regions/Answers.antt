@@ -23,7 +23,7 @@ returns-then-at-to-clause-refused g c =
 
 pub returns-then-at-to-clause-holds : goal.returns-then-at-to-clause-holds
 returns-then-at-to-clause-holds g c =
-    λ none. absurd (never-none c.args.relied c.read_stretches-at.result (c.args.first + length c.args.into.now / 512) c.read_stretches-at.new.members (c.read_stretches-at.ensures.first_read_refusal c.if-at-to.true)
+    λ none. absurd (never-none c.args.relied c.read_stretches-at.result (c.args.first + length c.args.into.now / 512) c.read_stretches-at.new.members (c.read_stretches-at.ensures.unread c.if-at-to.true)
     c.first_list_refusal.result c.first_list_refusal.ensures none)
 
 pub returns-clause-holds : goal.returns-clause-holds

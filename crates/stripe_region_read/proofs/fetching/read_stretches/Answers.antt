@@ -198,8 +198,8 @@ pub returns-then-is_err-clause-counts : goal.returns-then-is_err-clause-counts
 returns-then-is_err-clause-counts g c =
     λ s. le_trans (c.loop-at.invariant.counts s) (c.read_chunk-read.ensures.lost.never_falls s)
 
-pub returns-then-is_err-clause-first_read_refusal : goal.returns-then-is_err-clause-first_read_refusal
-returns-then-is_err-clause-first_read_refusal g c =
+pub returns-then-is_err-clause-unread : goal.returns-then-is_err-clause-unread
+returns-then-is_err-clause-unread g c =
     let was = c.loop-at.invariant in
     let did = c.read_chunk-read.ensures in
     let stretch = c.run_at-stretch.ensures in
@@ -375,5 +375,5 @@ returns-clause-given g c = c.loop-at.invariant.given
 pub returns-clause-counts : goal.returns-clause-counts
 returns-clause-counts g c = c.loop-at.invariant.counts
 
-pub returns-clause-first_read_refusal : goal.returns-clause-first_read_refusal
-returns-clause-first_read_refusal g c low = not-below c.loop-at.at _ low c.loop-at-test.false
+pub returns-clause-unread : goal.returns-clause-unread
+returns-clause-unread g c low = not-below c.loop-at.at _ low c.loop-at-test.false

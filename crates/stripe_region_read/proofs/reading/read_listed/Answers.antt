@@ -112,18 +112,18 @@ returns-clause-failed g c =
     (since-lost given shape m n r f0 f1 (lost-of given shape m n r f0 f1 c.requires.placed c.read_parts-read.ensures.lost)) c.record_missing-spares.ensures.failed (in-second c.record_missing-spares.result)
 
 pub returns-then-is_err-clause-first : goal.returns-then-is_err-clause-first
-returns-then-is_err-clause-first g c = told-first c.unread-refusal.result c.unread-refusal.ensures
+returns-then-is_err-clause-first g c = told-first c.first_read_refusal-refusal.result c.first_read_refusal-refusal.ensures
 
 pub returns-then-is_err-clause-refused : goal.returns-then-is_err-clause-refused
 returns-then-is_err-clause-refused g c =
-    told-why c.unread-refusal.result (read-cause c.args.shape.now c.args.mended c.args.first (length c.args.into.now / 512) c.read_parts-read.new.members) (told-first c.unread-refusal.result c.unread-refusal.ensures)
+    told-why c.first_read_refusal-refusal.result (read-cause c.args.shape.now c.args.mended c.args.first (length c.args.into.now / 512) c.read_parts-read.new.members) (told-first c.first_read_refusal-refusal.result c.first_read_refusal-refusal.ensures)
 
 pub returns-then-is_err-clause-holds : goal.returns-then-is_err-clause-holds
 returns-then-is_err-clause-holds g c = λ none.
     let n = c.read_parts-read.new.members in
     let did = c.read_parts-read.ensures in
     absurd (read-told n c.args.shape.now c.args.mended c.args.first (length c.args.into.now / 512) c.read_parts-read.result.answer
-    (sym c.is_err.ensures.value ∙ c.if-is_err.true) did.answer (sym c.unread-refusal.ensures ∙ none))
+    (sym c.is_err.ensures.value ∙ c.if-is_err.true) did.answer (sym c.first_read_refusal-refusal.ensures ∙ none))
 
 pub returns-clause-holds : goal.returns-clause-holds
 returns-clause-holds g c = λ ok told list stands fills i lt.

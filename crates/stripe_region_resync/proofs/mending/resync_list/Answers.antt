@@ -77,37 +77,37 @@ resync_rows-done-requires-clause-stripe g c =
 pub returns-clause-refused : goal.returns-clause-refused
 returns-clause-refused g c =
     let m = c.args.members.now in
-    let new = c.mend-done.new.members in
-    let did = c.mend-done.ensures in
+    let new = c.resync_rows-done.new.members in
+    let did = c.resync_rows-done.ensures in
     let next = c.stripe_after-next.result in
     let force : IsInForce m.newest next.shape = subst (λ (s : Stripe). IsInForce m.newest s.shape) (sym c.stripe_after-next.ensures) (is-next m.newest c.requires.placed.fit c.args.mended c.requires.pending).force in
     subst (λ (o : Option Refusal). MatchOption o (DoWithout new) (IsNotSynced (stripe_after m.newest c.args.mended).shape new)) (sym c.lacking_or-refusal.ensures)
-    (subst (λ (s : Stripe). MatchOption (lacking_or new c.mend-done.result.refusal) (DoWithout new) (IsNotSynced s.shape new)) c.stripe_after-next.ensures
-    (told-why new next.shape (alike-force m.newest new.newest did.moved.reshape did.moved.shape did.moved.size next.shape force) c.mend-done.result.refusal did.refused))
+    (subst (λ (s : Stripe). MatchOption (lacking_or new c.resync_rows-done.result.refusal) (DoWithout new) (IsNotSynced s.shape new)) c.stripe_after-next.ensures
+    (told-why new next.shape (alike-force m.newest new.newest did.moved.reshape did.moved.shape did.moved.size next.shape force) c.resync_rows-done.result.refusal did.refused))
 
 pub returns-clause-first : goal.returns-clause-first
 returns-clause-first g c =
     let m = c.args.members.now in
-    let new = c.mend-done.new.members in
+    let new = c.resync_rows-done.new.members in
     let next = c.stripe_after-next.result in
     subst (λ (o : Option Refusal). MatchOption o ⊤ (λ refusal. refusal_of_resync (stripe_after m.newest c.args.mended).shape new ≡ Some refusal)) (sym c.lacking_or-refusal.ensures)
-    (subst (λ (s : Stripe). MatchOption (lacking_or new c.mend-done.result.refusal) ⊤ (λ refusal. refusal_of_resync s.shape new ≡ Some refusal)) c.stripe_after-next.ensures
-    (told-first new next.shape c.mend-done.result.refusal c.mend-done.ensures.first))
+    (subst (λ (s : Stripe). MatchOption (lacking_or new c.resync_rows-done.result.refusal) ⊤ (λ refusal. refusal_of_resync s.shape new ≡ Some refusal)) c.stripe_after-next.ensures
+    (told-first new next.shape c.resync_rows-done.result.refusal c.resync_rows-done.ensures.first))
 
 pub returns-clause-others : goal.returns-clause-others
 returns-clause-others g c = λ told.
     let given = g.B.Bank.given c.args.bank.now in
-    others-of c.stripe_after-next.result (stripe_after c.args.members.now.newest c.args.mended) c.stripe_after-next.ensures c.mend-done.new.members
-    (present given (g.B.Bank.tape c.args.bank.now)) (present given (g.B.Bank.tape c.mend-done.new.bank)) (c.mend-done.ensures.others told)
+    others-of c.stripe_after-next.result (stripe_after c.args.members.now.newest c.args.mended) c.stripe_after-next.ensures c.resync_rows-done.new.members
+    (present given (g.B.Bank.tape c.args.bank.now)) (present given (g.B.Bank.tape c.resync_rows-done.new.bank)) (c.resync_rows-done.ensures.others told)
 
 pub returns-clause-stands : goal.returns-clause-stands
 returns-clause-stands g c = λ told among does hidden list stands.
     let m = c.args.members.now in
-    let new = c.mend-done.new.members in
-    let did = c.mend-done.ensures in
+    let new = c.resync_rows-done.new.members in
+    let did = c.resync_rows-done.ensures in
     let given = g.B.Bank.given c.args.bank.now in
     let before = present given (g.B.Bank.tape c.args.bank.now) in
-    let after = present given (g.B.Bank.tape c.mend-done.new.bank) in
+    let after = present given (g.B.Bank.tape c.resync_rows-done.new.bank) in
     let next = stripe_after m.newest c.args.mended in
     list-stays given m new did.moved c.requires.placed c.args.mended c.requires.pending before after
     (others-of c.stripe_after-next.result next c.stripe_after-next.ensures new before after (did.others told))
@@ -117,11 +117,11 @@ returns-clause-stands g c = λ told among does hidden list stands.
 pub returns-clause-tail : goal.returns-clause-tail
 returns-clause-tail g c = λ does told list stands.
     let m = c.args.members.now in
-    let new = c.mend-done.new.members in
-    let did = c.mend-done.ensures in
+    let new = c.resync_rows-done.new.members in
+    let did = c.resync_rows-done.ensures in
     let given = g.B.Bank.given c.args.bank.now in
     let before = present given (g.B.Bank.tape c.args.bank.now) in
-    let after = present given (g.B.Bank.tape c.mend-done.new.bank) in
+    let after = present given (g.B.Bank.tape c.resync_rows-done.new.bank) in
     let next = stripe_after m.newest c.args.mended in
     tails-stay given m new did.moved c.requires.placed c.args.mended c.requires.pending before after
     (others-of c.stripe_after-next.result next c.stripe_after-next.ensures new before after (did.others told))
@@ -131,11 +131,11 @@ returns-clause-tail g c = λ does told list stands.
 pub returns-clause-ends : goal.returns-clause-ends
 returns-clause-ends g c = λ does told list stands.
     let m = c.args.members.now in
-    let new = c.mend-done.new.members in
-    let did = c.mend-done.ensures in
+    let new = c.resync_rows-done.new.members in
+    let did = c.resync_rows-done.ensures in
     let given = g.B.Bank.given c.args.bank.now in
     let before = present given (g.B.Bank.tape c.args.bank.now) in
-    let after = present given (g.B.Bank.tape c.mend-done.new.bank) in
+    let after = present given (g.B.Bank.tape c.resync_rows-done.new.bank) in
     let next = stripe_after m.newest c.args.mended in
     ends-stay given m new did.moved c.requires.placed c.args.mended c.requires.pending before after
     (others-of c.stripe_after-next.result next c.stripe_after-next.ensures new before after (did.others told))
@@ -145,11 +145,11 @@ returns-clause-ends g c = λ does told list stands.
 pub returns-clause-kept : goal.returns-clause-kept
 returns-clause-kept g c = λ told among hidden list rows.
     let m = c.args.members.now in
-    let new = c.mend-done.new.members in
-    let did = c.mend-done.ensures in
+    let new = c.resync_rows-done.new.members in
+    let did = c.resync_rows-done.ensures in
     let given = g.B.Bank.given c.args.bank.now in
     let before = present given (g.B.Bank.tape c.args.bank.now) in
-    let after = present given (g.B.Bank.tape c.mend-done.new.bank) in
+    let after = present given (g.B.Bank.tape c.resync_rows-done.new.bank) in
     let next = stripe_after m.newest c.args.mended in
     rows-kept given m new did.moved c.requires.placed c.args.mended c.requires.pending before after
     (others-of c.stripe_after-next.result next c.stripe_after-next.ensures new before after (did.others told))
@@ -159,13 +159,13 @@ returns-clause-kept g c = λ told among hidden list rows.
 pub returns-clause-mended : goal.returns-clause-mended
 returns-clause-mended g c = λ none told among hidden list shown whole stands ends rows.
     let m = c.args.members.now in
-    let new = c.mend-done.new.members in
-    let did = c.mend-done.ensures in
+    let new = c.resync_rows-done.new.members in
+    let did = c.resync_rows-done.ensures in
     let given = g.B.Bank.given c.args.bank.now in
     let before = present given (g.B.Bank.tape c.args.bank.now) in
-    let after = present given (g.B.Bank.tape c.mend-done.new.bank) in
+    let after = present given (g.B.Bank.tape c.resync_rows-done.new.bank) in
     let next = stripe_after m.newest c.args.mended in
-    let found : c.mend-done.result.refusal ≡ None = none-found new c.mend-done.result.refusal (sym c.lacking_or-refusal.ensures ∙ none) in
+    let found : c.resync_rows-done.result.refusal ≡ None = none-found new c.resync_rows-done.result.refusal (sym c.lacking_or-refusal.ensures ∙ none) in
     rows-mended given m new did.moved c.requires.placed c.args.mended c.requires.pending before after
     (others-of c.stripe_after-next.result next c.stripe_after-next.ensures new before after (did.others told))
     (keeps-of c.stripe_after-next.result next c.stripe_after-next.ensures m new before after (λ few. did.stands few told))
@@ -175,11 +175,11 @@ returns-clause-mended g c = λ none told among hidden list shown whole stands en
 pub returns-clause-safe : goal.returns-clause-safe
 returns-clause-safe g c = λ told world ledger room gone unclean hidden list shown stands tails allowed zeros safe.
     let m = c.args.members.now in
-    let new = c.mend-done.new.members in
-    let did = c.mend-done.ensures in
+    let new = c.resync_rows-done.new.members in
+    let did = c.resync_rows-done.ensures in
     let given = g.B.Bank.given c.args.bank.now in
     let before = present given (g.B.Bank.tape c.args.bank.now) in
-    let after = present given (g.B.Bank.tape c.mend-done.new.bank) in
+    let after = present given (g.B.Bank.tape c.resync_rows-done.new.bank) in
     let listed = stripe-listed given m new did.moved c.requires.placed c.args.mended c.requires.pending before after hidden list shown stands tails in
     did.safe told world ledger room gone unclean listed.0
     (subst (λ (s : Stripe). DataStandsAmong s.shape (IsOfStripe s.shape s.at) m before listed.0) (sym c.stripe_after-next.ensures) listed.1)
@@ -191,44 +191,44 @@ returns-clause-safe g c = λ told world ledger room gone unclean hidden list sho
 pub returns-clause-stripe_stands : goal.returns-clause-stripe_stands
 returns-clause-stripe_stands g c = λ few told.
     let m = c.args.members.now in
-    let new = c.mend-done.new.members in
-    let did = c.mend-done.ensures in
+    let new = c.resync_rows-done.new.members in
+    let did = c.resync_rows-done.ensures in
     let given = g.B.Bank.given c.args.bank.now in
     let before = present given (g.B.Bank.tape c.args.bank.now) in
-    let after = present given (g.B.Bank.tape c.mend-done.new.bank) in
+    let after = present given (g.B.Bank.tape c.resync_rows-done.new.bank) in
     let next = stripe_after m.newest c.args.mended in
     keeps-of c.stripe_after-next.result next c.stripe_after-next.ensures m new before after (λ does. did.stands does told) few
 
 pub returns-clause-stripe_synced : goal.returns-clause-stripe_synced
 returns-clause-stripe_synced g c = λ none told.
     let m = c.args.members.now in
-    let new = c.mend-done.new.members in
-    let did = c.mend-done.ensures in
+    let new = c.resync_rows-done.new.members in
+    let did = c.resync_rows-done.ensures in
     let given = g.B.Bank.given c.args.bank.now in
     let before = present given (g.B.Bank.tape c.args.bank.now) in
-    let after = present given (g.B.Bank.tape c.mend-done.new.bank) in
+    let after = present given (g.B.Bank.tape c.resync_rows-done.new.bank) in
     let next = stripe_after m.newest c.args.mended in
-    mends-of c.stripe_after-next.result next c.stripe_after-next.ensures m new before after (did.mended (none-found new c.mend-done.result.refusal (sym c.lacking_or-refusal.ensures ∙ none)) told)
+    mends-of c.stripe_after-next.result next c.stripe_after-next.ensures m new before after (did.mended (none-found new c.resync_rows-done.result.refusal (sym c.lacking_or-refusal.ensures ∙ none)) told)
 
 pub returns-clause-stripe_kept : goal.returns-clause-stripe_kept
 returns-clause-stripe_kept g c = λ few told.
     let m = c.args.members.now in
-    let new = c.mend-done.new.members in
-    let did = c.mend-done.ensures in
+    let new = c.resync_rows-done.new.members in
+    let did = c.resync_rows-done.ensures in
     let given = g.B.Bank.given c.args.bank.now in
     let before = present given (g.B.Bank.tape c.args.bank.now) in
-    let after = present given (g.B.Bank.tape c.mend-done.new.bank) in
+    let after = present given (g.B.Bank.tape c.resync_rows-done.new.bank) in
     let next = stripe_after m.newest c.args.mended in
     stay-of c.stripe_after-next.result next c.stripe_after-next.ensures m new before after (λ does. did.kept does told) few
 
 pub returns-clause-stripe_rebuilt : goal.returns-clause-stripe_rebuilt
 returns-clause-stripe_rebuilt g c = λ few told.
     let m = c.args.members.now in
-    let new = c.mend-done.new.members in
-    let did = c.mend-done.ensures in
+    let new = c.resync_rows-done.new.members in
+    let did = c.resync_rows-done.ensures in
     let given = g.B.Bank.given c.args.bank.now in
     let before = present given (g.B.Bank.tape c.args.bank.now) in
-    let after = present given (g.B.Bank.tape c.mend-done.new.bank) in
+    let after = present given (g.B.Bank.tape c.resync_rows-done.new.bank) in
     let next = stripe_after m.newest c.args.mended in
     rebuilt-of c.stripe_after-next.result next c.stripe_after-next.ensures m new before after (λ does. did.rebuilt does told) few
 
@@ -237,7 +237,7 @@ returns-clause-stripe_safe g c = λ told world ledger room gone unclean list sta
     let m = c.args.members.now in
     let given = g.B.Bank.given c.args.bank.now in
     let before = present given (g.B.Bank.tape c.args.bank.now) in
-    c.mend-done.ensures.safe told world ledger room gone unclean list
+    c.resync_rows-done.ensures.safe told world ledger room gone unclean list
     (subst (λ (s : Stripe). DataStandsAmong s.shape (IsOfStripe s.shape s.at) m before list) (sym c.stripe_after-next.ensures) stands)
     (subst (λ (s : Stripe). IsOfRegion m s.shape (IsOfStripe s.shape s.at)) (sym c.stripe_after-next.ensures) (λ x x-in at. next-region m.newest c.requires.placed.fit c.args.mended c.requires.pending x x-in at))
     allowed zeros safe

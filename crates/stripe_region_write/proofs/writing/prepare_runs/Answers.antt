@@ -49,32 +49,32 @@ returns-then-not-read-clause-grows g c =
 pub returns-then-not-read-clause-low : goal.returns-then-not-read-clause-low
 returns-then-not-read-clause-low g c =
     let did = c.read_runs-read.ensures in
-    λ none. absurd (told-never _ _ c.first_runs_refusal.result (did.first_read_refusal c.if-not-read.true) c.first_runs_refusal.ensures none)
+    λ none. absurd (told-never _ _ c.first_runs_refusal.result (did.unread c.if-not-read.true) c.first_runs_refusal.ensures none)
 
 pub returns-then-not-read-clause-high : goal.returns-then-not-read-clause-high
 returns-then-not-read-clause-high g c =
     let did = c.read_runs-read.ensures in
-    λ none. absurd (told-never _ _ c.first_runs_refusal.result (did.first_read_refusal c.if-not-read.true) c.first_runs_refusal.ensures none)
+    λ none. absurd (told-never _ _ c.first_runs_refusal.result (did.unread c.if-not-read.true) c.first_runs_refusal.ensures none)
 
 pub returns-then-not-read-clause-low_rows : goal.returns-then-not-read-clause-low_rows
 returns-then-not-read-clause-low_rows g c =
     let did = c.read_runs-read.ensures in
-    λ none. absurd (told-never _ _ c.first_runs_refusal.result (did.first_read_refusal c.if-not-read.true) c.first_runs_refusal.ensures none)
+    λ none. absurd (told-never _ _ c.first_runs_refusal.result (did.unread c.if-not-read.true) c.first_runs_refusal.ensures none)
 
 pub returns-then-not-read-clause-high_rows : goal.returns-then-not-read-clause-high_rows
 returns-then-not-read-clause-high_rows g c =
     let did = c.read_runs-read.ensures in
-    λ none. absurd (told-never _ _ c.first_runs_refusal.result (did.first_read_refusal c.if-not-read.true) c.first_runs_refusal.ensures none)
+    λ none. absurd (told-never _ _ c.first_runs_refusal.result (did.unread c.if-not-read.true) c.first_runs_refusal.ensures none)
 
 pub returns-then-not-read-clause-dirty : goal.returns-then-not-read-clause-dirty
 returns-then-not-read-clause-dirty g c =
     let did = c.read_runs-read.ensures in
-    λ none. absurd (told-never _ _ c.first_runs_refusal.result (did.first_read_refusal c.if-not-read.true) c.first_runs_refusal.ensures none)
+    λ none. absurd (told-never _ _ c.first_runs_refusal.result (did.unread c.if-not-read.true) c.first_runs_refusal.ensures none)
 
 pub returns-then-not-read-clause-does : goal.returns-then-not-read-clause-does
 returns-then-not-read-clause-does g c =
     let did = c.read_runs-read.ensures in
-    λ none. absurd (told-never _ _ c.first_runs_refusal.result (did.first_read_refusal c.if-not-read.true) c.first_runs_refusal.ensures none)
+    λ none. absurd (told-never _ _ c.first_runs_refusal.result (did.unread c.if-not-read.true) c.first_runs_refusal.ensures none)
 
 pub returns-then-not-read-clause-stays : goal.returns-then-not-read-clause-stays
 returns-then-not-read-clause-stays g c =
@@ -132,8 +132,8 @@ too_many_runs-requires-clause-low g c =
     let given = g.B.Bank.given c.args.bank.now in
     let given1 = g.B.Bank.given c.read_runs-read.new.bank in
     let did = c.read_runs-read.ensures in
-    let p = c.raise-spares.new.members in
-    let named = c.raise-spares.ensures in
+    let p = c.mark_dirty-spares.new.members in
+    let named = c.mark_dirty-spares.ensures in
     let two : IsMoved given n p = moved-from given given1 n n p did.given refl named.moved in
     let all : IsMoved given m p = moved-then given m n p did.moved two in
     alike-force m.newest p.newest all.reshape all.shape all.size c.args.low.now.shape c.requires.low.force
@@ -145,8 +145,8 @@ too_many_runs-requires-clause-high g c =
     let given = g.B.Bank.given c.args.bank.now in
     let given1 = g.B.Bank.given c.read_runs-read.new.bank in
     let did = c.read_runs-read.ensures in
-    let p = c.raise-spares.new.members in
-    let named = c.raise-spares.ensures in
+    let p = c.mark_dirty-spares.new.members in
+    let named = c.mark_dirty-spares.ensures in
     let two : IsMoved given n p = moved-from given given1 n n p did.given refl named.moved in
     let all : IsMoved given m p = moved-then given m n p did.moved two in
     alike-force m.newest p.newest all.reshape all.shape all.size c.args.high.now.shape c.requires.high.force
@@ -158,8 +158,8 @@ returns-clause-moved g c =
     let given = g.B.Bank.given c.args.bank.now in
     let given1 = g.B.Bank.given c.read_runs-read.new.bank in
     let did = c.read_runs-read.ensures in
-    let p = c.raise-spares.new.members in
-    let named = c.raise-spares.ensures in
+    let p = c.mark_dirty-spares.new.members in
+    let named = c.mark_dirty-spares.ensures in
     let two : IsMoved given n p = moved-from given given1 n n p did.given refl named.moved in
     moved-then given m n p did.moved two
 
@@ -168,12 +168,12 @@ returns-clause-failed g c =
     let m = c.args.members.now in
     let n = c.read_runs-read.new.members in
     let did = c.read_runs-read.ensures in
-    let p = c.raise-spares.new.members in
-    let named = c.raise-spares.ensures in
+    let p = c.mark_dirty-spares.new.members in
+    let named = c.mark_dirty-spares.ensures in
     let f0 = g.B.Bank.faults_of c.args.bank.now in
     let f1 = g.B.Bank.faults_of c.read_runs-read.new.bank in
-    let f2 = g.B.Bank.faults_of c.raise-spares.new.bank in
-    since-then m n p 0 c.raise-spares.result c.raise-spares.result f0 f1 f2 did.counts named.counts did.failed named.failed (in-second c.raise-spares.result)
+    let f2 = g.B.Bank.faults_of c.mark_dirty-spares.new.bank in
+    since-then m n p 0 c.mark_dirty-spares.result c.mark_dirty-spares.result f0 f1 f2 did.counts named.counts did.failed named.failed (in-second c.mark_dirty-spares.result)
 
 pub returns-clause-refused : goal.returns-clause-refused
 returns-clause-refused g c =
@@ -182,15 +182,15 @@ returns-clause-refused g c =
 pub returns-clause-grows : goal.returns-clause-grows
 returns-clause-grows g c =
     let early : Grows g.B.Bank.tells (g.B.Bank.tape c.args.bank.now) (g.B.Bank.tape c.read_runs-read.new.bank) = grows-none c.read_runs-read.ensures.tape in
-    grows-then early c.raise-spares.ensures.grows
+    grows-then early c.mark_dirty-spares.ensures.grows
 
 pub returns-clause-others : goal.returns-clause-others
 returns-clause-others g c =
     let given = g.B.Bank.given c.args.bank.now in
     let did = c.read_runs-read.ensures in
     let tape1 = g.B.Bank.tape c.read_runs-read.new.bank in
-    let named = c.raise-spares.ensures in
-    let tape2 = g.B.Bank.tape c.raise-spares.new.bank in
+    let named = c.mark_dirty-spares.ensures in
+    let tape2 = g.B.Bank.tape c.mark_dirty-spares.new.bank in
     λ told. subst (λ (l : List Operation). AreOthersPresent (present given l) (present given tape2)) (did.tape told)
     (subst (λ (b : Given). AreOthersPresent (present b tape1) (present b tape2)) did.given (named.others told))
 
@@ -198,7 +198,7 @@ pub returns-clause-unused : goal.returns-clause-unused
 returns-clause-unused g c = λ told.
     let did = c.read_runs-read.ensures in
     named-unused (g.B.Bank.given c.args.bank.now) (g.B.Bank.given c.read_runs-read.new.bank) c.args.members.now c.read_runs-read.new.members
-    (g.B.Bank.tape c.args.bank.now) (g.B.Bank.tape c.read_runs-read.new.bank) (g.B.Bank.tape c.raise-spares.new.bank) (did.tape told) did.given did.moved (c.raise-spares.ensures.rest told)
+    (g.B.Bank.tape c.args.bank.now) (g.B.Bank.tape c.read_runs-read.new.bank) (g.B.Bank.tape c.mark_dirty-spares.new.bank) (did.tape told) did.given did.moved (c.mark_dirty-spares.ensures.rest told)
 
 pub returns-clause-low : goal.returns-clause-low
 returns-clause-low g c =
@@ -207,8 +207,8 @@ returns-clause-low g c =
     let given1 = g.B.Bank.given c.read_runs-read.new.bank in
     let did = c.read_runs-read.ensures in
     let tape0 = g.B.Bank.tape c.args.bank.now in
-    let p = c.raise-spares.new.members in
-    let named = c.raise-spares.ensures in
+    let p = c.mark_dirty-spares.new.members in
+    let named = c.mark_dirty-spares.ensures in
     let two : IsMoved given n p = moved-from given given1 n n p did.given refl named.moved in
     λ none told.
     let c0 = present given tape0 in
@@ -225,8 +225,8 @@ returns-clause-high g c =
     let given1 = g.B.Bank.given c.read_runs-read.new.bank in
     let did = c.read_runs-read.ensures in
     let tape0 = g.B.Bank.tape c.args.bank.now in
-    let p = c.raise-spares.new.members in
-    let named = c.raise-spares.ensures in
+    let p = c.mark_dirty-spares.new.members in
+    let named = c.mark_dirty-spares.ensures in
     let two : IsMoved given n p = moved-from given given1 n n p did.given refl named.moved in
     λ none told.
     let c0 = present given tape0 in
@@ -253,7 +253,7 @@ returns-clause-rise g c =
     let did = c.read_runs-read.ensures in
     let tape0 = g.B.Bank.tape c.args.bank.now in
     let tape1 = g.B.Bank.tape c.read_runs-read.new.bank in
-    let named = c.raise-spares.ensures in
+    let named = c.mark_dirty-spares.ensures in
     risen-then (risen-lost m n did.lost.0 tape0 tape1 did.lost.1 (λ t. still-long tape0 tape1 (did.tape t))) named.rise
 
 pub returns-clause-safe : goal.returns-clause-safe
@@ -265,9 +265,9 @@ returns-clause-safe g c =
     let did = c.read_runs-read.ensures in
     let tape0 = g.B.Bank.tape c.args.bank.now in
     let tape1 = g.B.Bank.tape c.read_runs-read.new.bank in
-    let p = c.raise-spares.new.members in
-    let named = c.raise-spares.ensures in
-    let tape2 = g.B.Bank.tape c.raise-spares.new.bank in
+    let p = c.mark_dirty-spares.new.members in
+    let named = c.mark_dirty-spares.ensures in
+    let tape2 = g.B.Bank.tape c.mark_dirty-spares.new.bank in
     λ tell world told room gone unclean now.
     let read = safe-lost (OpensFit world) world.scope given told m n did.lost.0 tape0 tape1 did.lost.1 (did.tape tell) now in
     safe-then (OpensFit world) world.scope given told n p tape0 tape1 tape2 read
@@ -276,7 +276,7 @@ returns-clause-safe g c =
 
 pub returns-clause-counts : goal.returns-clause-counts
 returns-clause-counts g c =
-    λ s. le_trans (c.read_runs-read.ensures.counts s) (c.raise-spares.ensures.counts s)
+    λ s. le_trans (c.read_runs-read.ensures.counts s) (c.mark_dirty-spares.ensures.counts s)
 
 pub returns-clause-does : goal.returns-clause-does
 returns-clause-does g c = λ none. told-no _ _ c.too_many_runs.result none c.too_many_runs.ensures
@@ -342,13 +342,13 @@ pub mark_dirty-spares-requires-clause-unlost : goal.mark_dirty-spares-requires-c
 mark_dirty-spares-requires-clause-unlost g c = c.read_runs-read.ensures.moved.unlost
 
 pub returns-clause-dirty : goal.returns-clause-dirty
-returns-clause-dirty g c none = c.raise-spares.ensures.dirty
+returns-clause-dirty g c none = c.mark_dirty-spares.ensures.dirty
 
 pub returns-clause-stays : goal.returns-clause-stays
-returns-clause-stays g c dirty = c.raise-spares.ensures.dirty
+returns-clause-stays g c dirty = c.mark_dirty-spares.ensures.dirty
 
 pub returns-clause-given : goal.returns-clause-given
-returns-clause-given g c = c.raise-spares.ensures.given ∙ c.read_runs-read.ensures.given
+returns-clause-given g c = c.mark_dirty-spares.ensures.given ∙ c.read_runs-read.ensures.given
 
 pub returns-clause-rows : goal.returns-clause-rows
 returns-clause-rows g c = c.read_runs-read.ensures.rows

@@ -117,8 +117,8 @@ returns-then-is_err-clause-failed g c =
     let lost1 : AreLost given low.shape m n r f0 f1 = lost-of given low.shape m n r f0 f1 c.requires.placed did.lost in
     since-lost given low.shape m n r f0 f1 lost1
 
-pub returns-then-is_err-clause-first_read_refusal : goal.returns-then-is_err-clause-first_read_refusal
-returns-then-is_err-clause-first_read_refusal g c =
+pub returns-then-is_err-clause-unread : goal.returns-then-is_err-clause-unread
+returns-then-is_err-clause-unread g c =
     let n = c.read_touched-near.new.members in
     let low = c.args.low.now in
     let did = c.read_touched-near.ensures in
@@ -174,8 +174,8 @@ returns-clause-failed g c =
     let lost2 : AreLost given high.shape n p r2 f1 f2 = lost-of given high.shape n p r2 f1 f2 one.placed did2.lost in
     since-then m n p 0 0 0 f0 f1 f2 did.lost.never_falls did2.lost.never_falls (since-lost given low.shape m n r f0 f1 lost1) (since-lost given high.shape n p r2 f1 f2 lost2) (in-second 0)
 
-pub returns-clause-first_read_refusal : goal.returns-clause-first_read_refusal
-returns-clause-first_read_refusal g c =
+pub returns-clause-unread : goal.returns-clause-unread
+returns-clause-unread g c =
     let p = c.read_touched-far.new.members in
     let high = c.args.high.now in
     let did2 = c.read_touched-far.ensures in

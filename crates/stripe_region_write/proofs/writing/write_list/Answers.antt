@@ -77,8 +77,8 @@ returns-then-is_some-clause-refused g c =
     told-as _ _ _ c.prepare_runs-begun.result.refusal (runs-unwritten n c.args.window c.args.relied c.args.first to cut.low cut.high
     (runs-alike m.newest n.newest did.moved.reshape did.moved.shape did.moved.size c.args.window c.args.relied c.args.first to cut.low cut.high are)) did.refused
 
-pub returns-then-is_some-clause-write_listed : goal.returns-then-is_some-clause-write_listed
-returns-then-is_some-clause-write_listed g c =
+pub returns-then-is_some-clause-put : goal.returns-then-is_some-clause-put
+returns-then-is_some-clause-put g c =
     λ none. absurd (some-none c.prepare_runs-begun.result.refusal (sym c.is_some.ensures ∙ c.if-is_some.true) none)
 
 pub returns-then-is_some-clause-tail : goal.returns-then-is_some-clause-tail
@@ -325,8 +325,8 @@ pub returns-clause-grows : goal.returns-clause-grows
 returns-clause-grows g c =
     grows-then c.prepare_runs-begun.ensures.grows c.write_runs-done.ensures.grows
 
-pub returns-clause-write_listed : goal.returns-clause-write_listed
-returns-clause-write_listed g c =
+pub returns-clause-put : goal.returns-clause-put
+returns-clause-put g c =
     let m = c.args.members.now in
     let n = c.prepare_runs-begun.new.members in
     let given = g.B.Bank.given c.args.bank.now in

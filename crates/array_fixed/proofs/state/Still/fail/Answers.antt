@@ -161,7 +161,7 @@ invariant_of-self-2 g c =
       others = did.others;
       safe = named-out a.members mid lost is given m tape tape' did.safe;
     } in
-    let items = behind-loss c.make_room.new.self.items c.enter-2.new.epoch.entries.items c.append_after_losses.new.epoch.entries.items c.args.who end (Lost role Command) (losses_of roles spares ++ Failed role ∷ []) c.enter-2.ensures.items c.append_after_losses.ensures.items in
+    let items = behind-loss c.make_room.new.self.items c.append_entry-2.new.epoch.entries.items c.append_after_losses.new.epoch.entries.items c.args.who end (Lost role Command) (losses_of roles spares ++ Failed role ∷ []) c.append_entry-2.ensures.items c.append_after_losses.ensures.items in
     let quiet = behind-keeps c.args.who end roles spares (Failed role ∷ []) (alone-keeps c.args.who end (Failed role) (λ n. refl) (λ limit. refl)) in
     ready (entries_of c.args.who end ((Lost role Command ∷ losses_of roles spares) ++ Failed role ∷ [])) was (rows-moved given a.members m moved)
     (failed-stands g.B.Bank.tells given tape tape' scope a.epoch.first a.epoch.entries.items a.members m a.work (still_left a.work a.members a.ahead) (still_left a.work m a.ahead) c.args.who end role roles spares
@@ -174,8 +174,8 @@ invariant_of-self-2 g c =
     (vacant-moved did.moved role (out-vacant given a.members mid lost c.in-Some.slot role here.placed here.unlost is c.lose_slot.ensures.alone c.in-Some.ensures.held))
     (out-spares given a.members mid lost c.in-Some.slot role here.placed here.unlost is c.lose_slot.ensures.alone c.in-Some.ensures.held))
     did.counts (record { long = λ n. quiet.long n; free = quiet.free })
-    did.given (scope-same given a.backup did.given (c.append_after_losses.ensures.uuid ∙ c.enter-2.ensures.uuid) (c.append_after_losses.ensures.given ∙ c.enter-2.ensures.given)) (c.append_after_losses.ensures.first ∙ c.enter-2.ensures.first)
-    c.make_room.ensures.items items (omega (arith, c.append_after_losses.ensures.room, c.enter-2.ensures.room, c.in-Ok.ensures.ok))
+    did.given (scope-same given a.backup did.given (c.append_after_losses.ensures.uuid ∙ c.append_entry-2.ensures.uuid) (c.append_after_losses.ensures.given ∙ c.append_entry-2.ensures.given)) (c.append_after_losses.ensures.first ∙ c.append_entry-2.ensures.first)
+    c.make_room.ensures.items items (omega (arith, c.append_after_losses.ensures.room, c.append_entry-2.ensures.room, c.in-Ok.ensures.ok))
 
 pub returns-clause-answered : goal.returns-clause-answered
 returns-clause-answered g c =
@@ -183,7 +183,7 @@ returns-clause-answered g c =
     let roles = c.newly_unassigned-roles.result in
     let spares = c.record_missing-spares.result in
     let end = c.ops-end-2.result in
-    let items = behind-loss c.make_room.new.self.items c.enter-2.new.epoch.entries.items c.append_after_losses.new.epoch.entries.items c.args.who end (Lost role Command) (losses_of roles spares ++ Failed role ∷ []) c.enter-2.ensures.items c.append_after_losses.ensures.items in
+    let items = behind-loss c.make_room.new.self.items c.append_entry-2.new.epoch.entries.items c.append_after_losses.new.epoch.entries.items c.args.who end (Lost role Command) (losses_of roles spares ++ Failed role ∷ []) c.append_entry-2.ensures.items c.append_after_losses.ensures.items in
     fail_reply (list_length c.args.self.now.parts.members.newest) c.args.who c.args.self.now.parts.entries c.append_after_losses.new.epoch.entries.items end role roles spares
     (items ∙ ap (λ (l : List Entry). l ++ entries_of c.args.who end ((Lost role Command ∷ losses_of roles spares) ++ Failed role ∷ [])) (c.make_room.ensures.items ∙ ap (λ p. p.parts.entries) c.self.view_is))
     c.requires.next
@@ -207,12 +207,12 @@ returns-clause-called g c =
     let since = since-out given a.members mid m c.lose_slot.result c.in-Some.slot role here.placed here.unlost c.lose_slot.ensures.members c.lose_slot.ensures.alone c.in-Some.ensures.held did.moved
     c.len-count.result c.unassigned_roles-before.result roles spares before after did.failed (c.len-count.ensures ∙ here.placed.roles) c.unassigned_roles-before.ensures c.newly_unassigned-roles.ensures in
     let first = moved-out given a.members mid c.lose_slot.result c.in-Some.slot role here.placed here.unlost c.lose_slot.ensures.members c.lose_slot.ensures.alone c.in-Some.ensures.held in
-    let items = behind-loss c.make_room.new.self.items c.enter-2.new.epoch.entries.items c.append_after_losses.new.epoch.entries.items c.args.who end (Lost role Command) (losses_of roles spares ++ Failed role ∷ []) c.enter-2.ensures.items c.append_after_losses.ensures.items in
+    let items = behind-loss c.make_room.new.self.items c.append_entry-2.new.epoch.entries.items c.append_after_losses.new.epoch.entries.items c.args.who end (Lost role Command) (losses_of roles spares ++ Failed role ∷ []) c.append_entry-2.ensures.items c.append_after_losses.ensures.items in
     rw (← c.self.view_is) (called did.grows moved
     (ended-behind (g.B.Bank.tape c.record_missing-spares.new.bank) c.append_after_losses.new.epoch.first c.make_room.new.self.items c.args.who end (Lost role Command ∷ losses_of roles spares) (Failed role) items c.ops-end-2.ensures.count)
     (losses-failed a.members mid m before after a.epoch.entries.items c.make_room.new.self.items c.append_after_losses.new.epoch.entries.items c.args.who end role c.in-Some.slot roles spares first.held first.fewer since c.in-Some.ensures.held c.make_room.ensures.items items)
     did.counts
-    (record { uuid = c.append_after_losses.ensures.uuid ∙ c.enter-2.ensures.uuid; given = c.append_after_losses.ensures.given ∙ c.enter-2.ensures.given; first = c.append_after_losses.ensures.first ∙ c.enter-2.ensures.first; backup = refl; work = refl; ahead = refl; limit = refl })
+    (record { uuid = c.append_after_losses.ensures.uuid ∙ c.append_entry-2.ensures.uuid; given = c.append_after_losses.ensures.given ∙ c.append_entry-2.ensures.given; first = c.append_after_losses.ensures.first ∙ c.append_entry-2.ensures.first; backup = refl; work = refl; ahead = refl; limit = refl })
     (λ t. (was.kept.recorded t).begun))
 
 pub returns-clause-others : goal.returns-clause-others
@@ -243,7 +243,7 @@ newly_unassigned-roles-requires-clause-known g c =
     same-known c.len-count.ensures here.placed.roles (moved.placed.roles ∙ count-alike c.self.inside.members.newest c.record_missing-spares.new.members.newest moved.reshape moved.shape moved.size)
 
 pub append_after_losses-requires-clause-number : goal.append_after_losses-requires-clause-number
-append_after_losses-requires-clause-number g c = number-behind _ _ c.enter-2.ensures.items c.check_number.ensures
+append_after_losses-requires-clause-number g c = number-behind _ _ c.append_entry-2.ensures.items c.check_number.ensures
 
 -- ---- memory was short
 

@@ -91,8 +91,8 @@ invariant_of-self-2 g c =
     let size : c.length-size.result ≡ list_length a.members.newest = c.length-size.ensures.length ∙ ap (λ p. list_length p.parts.members.newest) (sym c.self.view_is) in
     visible-ready who c.ops-end.result c.args.limit c.visible_of-count.result was number c.requires.caller c.ops-end.ensures.count
     (c.visible_of-count.ensures.value ∙ ap (λ (n : ℕ). visible_by n c.args.limit) size)
-    (scope-same given a.backup refl c.enter-2.ensures.uuid c.enter-2.ensures.given) c.enter-2.ensures.first c.make_room.ensures.items c.enter-2.ensures.items
-    (omega (arith, c.enter-2.ensures.room, c.in-Ok.ensures.ok))
+    (scope-same given a.backup refl c.append_entry-2.ensures.uuid c.append_entry-2.ensures.given) c.append_entry-2.ensures.first c.make_room.ensures.items c.append_entry-2.ensures.items
+    (omega (arith, c.append_entry-2.ensures.room, c.in-Ok.ensures.ok))
 
 pub returns-clause-answered : goal.returns-clause-answered
 returns-clause-answered g c =
@@ -106,7 +106,7 @@ returns-clause-answered g c =
     rw (← c.self.view_is) (record {
       end = end;
       at_end = c.ops-end.ensures.count;
-      is = c.enter-2.ensures.items ∙ ap₂ (λ (l : List Entry) (n : ℕ). l ++ entries_of who end (Visible c.args.limit n ∷ [])) c.make_room.ensures.items count;
+      is = c.append_entry-2.ensures.items ∙ ap₂ (λ (l : List Entry) (n : ℕ). l ++ entries_of who end (Visible c.args.limit n ∷ [])) c.make_room.ensures.items count;
       fits = λ t ahead. visible-fits who end c.args.limit was.kept number c.requires.caller c.ops-end.ensures.count (visible_size a.members c.args.limit) t;
     })
 
@@ -123,9 +123,9 @@ pub returns-clause-limited : goal.returns-clause-limited
 returns-clause-limited g c = rw (← c.self.view_is) (record {
   limit_is = refl;
   bank = refl;
-  uuid = c.enter-2.ensures.uuid;
-  given = c.enter-2.ensures.given;
-  first = c.enter-2.ensures.first;
+  uuid = c.append_entry-2.ensures.uuid;
+  given = c.append_entry-2.ensures.given;
+  first = c.append_entry-2.ensures.first;
   backup = refl;
   members = refl;
   work = refl;
@@ -135,7 +135,7 @@ returns-clause-limited g c = rw (← c.self.view_is) (record {
 
 pub returns-clause-ended : goal.returns-clause-ended
 returns-clause-ended g c =
-    ended-behind (g.B.Bank.tape c.self.inside.bank) c.enter-2.new.epoch.first c.make_room.new.self.items c.args.who c.ops-end.result [] (Visible c.args.limit c.visible_of-count.result) c.enter-2.ensures.items c.ops-end.ensures.count
+    ended-behind (g.B.Bank.tape c.self.inside.bank) c.append_entry-2.new.epoch.first c.make_room.new.self.items c.args.who c.ops-end.result [] (Visible c.args.limit c.visible_of-count.result) c.append_entry-2.ensures.items c.ops-end.ensures.count
 
 -- ---- nothing was done
 

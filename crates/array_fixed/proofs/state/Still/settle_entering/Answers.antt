@@ -106,14 +106,14 @@ invariant_of-self-in-Some-refusal g c =
     let given = g.B.Bank.given a.bank in
     let scope = scope_in given a.epoch.uuid a.epoch.given a.backup in
     let number : c.args.who.number ≡ next_number c.args.who.caller a.epoch.entries.items = c.requires.next ∙ ap (λ p. next_number c.args.who.caller p.parts.entries) (sym c.self.view_is) in
-    let m = c.settle-settled.new.members in
-    let did = c.settle-settled.ensures in
+    let m = c.flush_and_mark-settled.new.members in
+    let did = c.flush_and_mark-settled.ensures in
     let tape = g.B.Bank.tape a.bank in
-    let tape' = g.B.Bank.tape c.settle-settled.new.bank in
+    let tape' = g.B.Bank.tape c.flush_and_mark-settled.new.bank in
     let before = g.B.Bank.faults_of a.bank in
-    let after = g.B.Bank.faults_of c.settle-settled.new.bank in
+    let after = g.B.Bank.faults_of c.flush_and_mark-settled.new.bank in
     let roles = c.newly_unassigned-roles.result in
-    let spares = c.settle-settled.result.spares in
+    let spares = c.flush_and_mark-settled.result.spares in
     let end = c.ops-end-2.result in
     let refusal = c.in-Some-refusal.refusal in
     let left = still_left a.work a.members a.ahead in
@@ -125,10 +125,10 @@ invariant_of-self-in-Some-refusal g c =
     ready (entries_of c.args.who end (losses_of roles spares ++ Refused refusal ∷ [])) was (rows-moved given a.members m did.moved)
     (unflushed-stands g.B.Bank.tells given tape tape' scope a.epoch.first a.epoch.entries.items a.members m a.work left c.args.who end roles spares before after c.is_some.result was.kept
     (without-left given a.members here.placed here.unlost c.in_default.ensures) (begins-going a.epoch.entries.items c.args.who number) (not_254 c.args.who.caller c.requires.caller) c.ops-end-2.ensures.count
-    (all-mended a.members a.work.resync c.is_some.result c.is_some.ensures) flushed left' refusal (many-of m c.settle-settled.result.refusal refusal c.in-Some-refusal.is did.refused)
+    (all-mended a.members a.work.resync c.is_some.result c.is_some.ensures) flushed left' refusal (many-of m c.flush_and_mark-settled.result.refusal refusal c.in-Some-refusal.is did.refused)
     (left-alike a.work a.ahead roles spares before after did.moved since))
     (plain-refused was c.args.who end (begins-going a.epoch.entries.items c.args.who number) c.requires.caller c.ops-end-2.ensures.count did.grows did.moved since refusal
-    (too-many-here (visible_size a.members a.limit) a.work.resync m refusal (many-of m c.settle-settled.result.refusal refusal c.in-Some-refusal.is did.refused)))
+    (too-many-here (visible_size a.members a.limit) a.work.resync m refusal (many-of m c.flush_and_mark-settled.result.refusal refusal c.in-Some-refusal.is did.refused)))
     did.counts (behind-keeps c.args.who end roles spares (Refused refusal ∷ []) (alone-keeps c.args.who end (Refused refusal) (λ n. refl) (λ limit. refl)))
     did.given (scope-same given a.backup did.given c.append_after_losses.ensures.uuid c.append_after_losses.ensures.given) c.append_after_losses.ensures.first c.make_room.ensures.items c.append_after_losses.ensures.items
     (omega (arith, c.append_after_losses.ensures.room, c.in-Ok.ensures.ok))
@@ -139,18 +139,18 @@ returns-in-Some-refusal-clause-called g c =
     let here = was.kept.members_are in
     let a = c.self.inside in
     let given = g.B.Bank.given a.bank in
-    let m = c.settle-settled.new.members in
-    let did = c.settle-settled.ensures in
+    let m = c.flush_and_mark-settled.new.members in
+    let did = c.flush_and_mark-settled.ensures in
     let before = g.B.Bank.faults_of a.bank in
-    let after = g.B.Bank.faults_of c.settle-settled.new.bank in
+    let after = g.B.Bank.faults_of c.flush_and_mark-settled.new.bank in
     let roles = c.newly_unassigned-roles.result in
-    let spares = c.settle-settled.result.spares in
+    let spares = c.flush_and_mark-settled.result.spares in
     let end = c.ops-end-2.result in
     let event = Refused c.in-Some-refusal.refusal in
     let since = lost-since given a.members m c.len-count.result c.unassigned_roles-before.result roles spares before after here.placed did.moved did.failed
     (c.len-count.ensures ∙ here.placed.roles) c.unassigned_roles-before.ensures c.newly_unassigned-roles.ensures in
     rw (← c.self.view_is) (called did.grows did.moved
-    (ended-behind (g.B.Bank.tape c.settle-settled.new.bank) c.append_after_losses.new.epoch.first c.make_room.new.self.items c.args.who end (losses_of roles spares) event c.append_after_losses.ensures.items c.ops-end-2.ensures.count)
+    (ended-behind (g.B.Bank.tape c.flush_and_mark-settled.new.bank) c.append_after_losses.new.epoch.first c.make_room.new.self.items c.args.who end (losses_of roles spares) event c.append_after_losses.ensures.items c.ops-end-2.ensures.count)
     (losses-behind a.members m before after a.epoch.entries.items c.make_room.new.self.items c.append_after_losses.new.epoch.entries.items c.args.who end roles spares event since tt c.make_room.ensures.items c.append_after_losses.ensures.items)
     did.counts
     (record { uuid = c.append_after_losses.ensures.uuid; given = c.append_after_losses.ensures.given; first = c.append_after_losses.ensures.first; backup = refl; work = refl; ahead = refl; limit = refl })
@@ -165,14 +165,14 @@ invariant_of-self-2 g c =
     let a = c.self.inside in
     let given = g.B.Bank.given a.bank in
     let number : c.args.who.number ≡ next_number c.args.who.caller a.epoch.entries.items = c.requires.next ∙ ap (λ p. next_number c.args.who.caller p.parts.entries) (sym c.self.view_is) in
-    let m = c.settle-settled.new.members in
-    let did = c.settle-settled.ensures in
+    let m = c.flush_and_mark-settled.new.members in
+    let did = c.flush_and_mark-settled.ensures in
     let tape = g.B.Bank.tape a.bank in
-    let tape' = g.B.Bank.tape c.settle-settled.new.bank in
+    let tape' = g.B.Bank.tape c.flush_and_mark-settled.new.bank in
     let before = g.B.Bank.faults_of a.bank in
-    let after = g.B.Bank.faults_of c.settle-settled.new.bank in
+    let after = g.B.Bank.faults_of c.flush_and_mark-settled.new.bank in
     let roles = c.newly_unassigned-roles.result in
-    let spares = c.settle-settled.result.spares in
+    let spares = c.flush_and_mark-settled.result.spares in
     let end = c.ops-end-2.result in
     let since = lost-since given a.members m c.len-count.result c.unassigned_roles-before.result roles spares before after here.placed did.moved did.failed
     (c.len-count.ensures ∙ here.placed.roles) c.unassigned_roles-before.ensures c.newly_unassigned-roles.ensures in
@@ -194,17 +194,17 @@ returns-clause-called g c =
     let here = was.kept.members_are in
     let a = c.self.inside in
     let given = g.B.Bank.given a.bank in
-    let m = c.settle-settled.new.members in
-    let did = c.settle-settled.ensures in
+    let m = c.flush_and_mark-settled.new.members in
+    let did = c.flush_and_mark-settled.ensures in
     let before = g.B.Bank.faults_of a.bank in
-    let after = g.B.Bank.faults_of c.settle-settled.new.bank in
+    let after = g.B.Bank.faults_of c.flush_and_mark-settled.new.bank in
     let roles = c.newly_unassigned-roles.result in
-    let spares = c.settle-settled.result.spares in
+    let spares = c.flush_and_mark-settled.result.spares in
     let end = c.ops-end-2.result in
     let since = lost-since given a.members m c.len-count.result c.unassigned_roles-before.result roles spares before after here.placed did.moved did.failed
     (c.len-count.ensures ∙ here.placed.roles) c.unassigned_roles-before.ensures c.newly_unassigned-roles.ensures in
     rw (← c.self.view_is) (called did.grows did.moved
-    (ended-behind (g.B.Bank.tape c.settle-settled.new.bank) c.append_after_losses-2.new.epoch.first c.make_room.new.self.items c.args.who end (losses_of roles spares) c.args.event c.append_after_losses-2.ensures.items c.ops-end-2.ensures.count)
+    (ended-behind (g.B.Bank.tape c.flush_and_mark-settled.new.bank) c.append_after_losses-2.new.epoch.first c.make_room.new.self.items c.args.who end (losses_of roles spares) c.args.event c.append_after_losses-2.ensures.items c.ops-end-2.ensures.count)
     (losses-behind a.members m before after a.epoch.entries.items c.make_room.new.self.items c.append_after_losses-2.new.epoch.entries.items c.args.who end roles spares c.args.event since
     (settling-no-loss a.members before after c.args.event c.requires.event) c.make_room.ensures.items c.append_after_losses-2.ensures.items)
     did.counts
@@ -216,16 +216,16 @@ returns-clause-left g c =
     let here = c.self.invariant.kept.members_are in
     let a = c.self.inside in
     let given = g.B.Bank.given a.bank in
-    let m = c.settle-settled.new.members in
-    let did = c.settle-settled.ensures in
+    let m = c.flush_and_mark-settled.new.members in
+    let did = c.flush_and_mark-settled.ensures in
     let before = g.B.Bank.faults_of a.bank in
-    let after = g.B.Bank.faults_of c.settle-settled.new.bank in
+    let after = g.B.Bank.faults_of c.flush_and_mark-settled.new.bank in
     let roles = c.newly_unassigned-roles.result in
-    let spares = c.settle-settled.result.spares in
+    let spares = c.flush_and_mark-settled.result.spares in
     let since = lost-since given a.members m c.len-count.result c.unassigned_roles-before.result roles spares before after here.placed did.moved did.failed
     (c.len-count.ensures ∙ here.placed.roles) c.unassigned_roles-before.ensures c.newly_unassigned-roles.ensures in
     rw (← c.self.view_is) (λ t. left-settled given a.members m a.epoch.entries.items c.make_room.new.self.items c.append_after_losses-2.new.epoch.entries.items c.args.who c.ops-end-2.result roles spares c.args.event before after
-    (g.B.Bank.tape c.settle-settled.new.bank) here.placed did.moved (few-roles m.newest did.moved.placed.fit.valid) since c.make_room.ensures.items c.append_after_losses-2.ensures.items (did.flushed t))
+    (g.B.Bank.tape c.flush_and_mark-settled.new.bank) here.placed did.moved (few-roles m.newest did.moved.placed.fit.valid) since c.make_room.ensures.items c.append_after_losses-2.ensures.items (did.flushed t))
 
 pub returns-clause-caused : goal.returns-clause-caused
 returns-clause-caused g c = rw (← c.self.view_is) (omega arith, λ refusal many. never-both c.self.inside.members refusal c.in_default.ensures many)
@@ -300,7 +300,7 @@ pub flush_and_mark-settled-requires-clause-slots : goal.flush_and_mark-settled-r
 flush_and_mark-settled-requires-clause-slots g c = c.self.invariant.kept.slots
 
 pub newly_unassigned-roles-requires-clause-known : goal.newly_unassigned-roles-requires-clause-known
-newly_unassigned-roles-requires-clause-known g c = count-moved c.len-count.result c.self.invariant.kept.members_are.placed c.settle-settled.ensures.moved c.len-count.ensures
+newly_unassigned-roles-requires-clause-known g c = count-moved c.len-count.result c.self.invariant.kept.members_are.placed c.flush_and_mark-settled.ensures.moved c.len-count.ensures
 
 pub append_after_losses-requires-clause-room : goal.append_after_losses-requires-clause-room
 append_after_losses-requires-clause-room g c = room-49 c.make_room.new.self.room c.in-Ok.ensures.ok
@@ -312,7 +312,7 @@ pub returns-in-Some-refusal-clause-answered : goal.returns-in-Some-refusal-claus
 returns-in-Some-refusal-clause-answered g c =
     let end = c.ops-end-2.result in
     let roles = c.newly_unassigned-roles.result in
-    let spares = c.settle-settled.result.spares in
+    let spares = c.flush_and_mark-settled.result.spares in
     let refusal = c.in-Some-refusal.refusal in
     record {
       roles = roles;
@@ -324,14 +324,14 @@ returns-in-Some-refusal-clause-answered g c =
 pub returns-in-Some-refusal-clause-caused : goal.returns-in-Some-refusal-clause-caused
 returns-in-Some-refusal-clause-caused g c =
     let a = c.self.inside in
-    let m = c.settle-settled.new.members in
+    let m = c.flush_and_mark-settled.new.members in
     let refusal = c.in-Some-refusal.refusal in
-    let many = many-of m c.settle-settled.result.refusal refusal c.in-Some-refusal.is c.settle-settled.ensures.refused in
+    let many = many-of m c.flush_and_mark-settled.result.refusal refusal c.in-Some-refusal.is c.flush_and_mark-settled.ensures.refused in
     subst (λ p. IsRefusedFor (list_length p.parts.members.newest) 0 AreTooMany p.parts.members m refusal) c.self.view_is
     (refused-for (list_length a.members.newest) 0 AreTooMany a.members m refusal (too-many-of m refusal many) (from-0 (list_length a.members.newest)) many)
 
 pub returns-in-Some-refusal-clause-given : goal.returns-in-Some-refusal-clause-given
-returns-in-Some-refusal-clause-given g c = c.settle-settled.ensures.given ∙ ap (λ p. g.B.Bank.given p.parts.bank) c.self.view_is
+returns-in-Some-refusal-clause-given g c = c.flush_and_mark-settled.ensures.given ∙ ap (λ p. g.B.Bank.given p.parts.bank) c.self.view_is
 
 pub append_after_losses-requires-2-clause-room : goal.append_after_losses-requires-2-clause-room
 append_after_losses-requires-2-clause-room g c = room-49 c.make_room.new.self.room c.in-Ok.ensures.ok
@@ -343,7 +343,7 @@ pub returns-clause-answered : goal.returns-clause-answered
 returns-clause-answered g c =
     let end = c.ops-end-2.result in
     let roles = c.newly_unassigned-roles.result in
-    let spares = c.settle-settled.result.spares in
+    let spares = c.flush_and_mark-settled.result.spares in
     record {
       roles = roles;
       spares = spares;
@@ -352,38 +352,38 @@ returns-clause-answered g c =
     }
 
 pub returns-clause-clean : goal.returns-clause-clean
-returns-clause-clean g c = λ none. c.settle-settled.ensures.clean c.in_default-refusal.is (c.is_some.ensures ∙ ap (λ p. is_some p.parts.work.resync) c.self.view_is ∙ ap is_some none)
+returns-clause-clean g c = λ none. c.flush_and_mark-settled.ensures.clean c.in_default-refusal.is (c.is_some.ensures ∙ ap (λ p. is_some p.parts.work.resync) c.self.view_is ∙ ap is_some none)
 
 pub returns-clause-last : goal.returns-clause-last
 returns-clause-last g c = λ t. c.append_after_losses-2.ensures.last ∙ c.ops-end-2.ensures.count t
 
 pub returns-clause-given : goal.returns-clause-given
-returns-clause-given g c = c.settle-settled.ensures.given ∙ ap (λ p. g.B.Bank.given p.parts.bank) c.self.view_is
+returns-clause-given g c = c.flush_and_mark-settled.ensures.given ∙ ap (λ p. g.B.Bank.given p.parts.bank) c.self.view_is
 
 -- ---- what it leaves of the members
 
 pub returns-in-Some-refusal-clause-others : goal.returns-in-Some-refusal-clause-others
 returns-in-Some-refusal-clause-others g c =
-    subst (λ p. g.B.Bank.tells → AreOthersPresent (present (g.B.Bank.given p.parts.bank) (g.B.Bank.tape p.parts.bank)) (present (g.B.Bank.given p.parts.bank) (g.B.Bank.tape c.settle-settled.new.bank))) c.self.view_is c.settle-settled.ensures.others
+    subst (λ p. g.B.Bank.tells → AreOthersPresent (present (g.B.Bank.given p.parts.bank) (g.B.Bank.tape p.parts.bank)) (present (g.B.Bank.given p.parts.bank) (g.B.Bank.tape c.flush_and_mark-settled.new.bank))) c.self.view_is c.flush_and_mark-settled.ensures.others
 
 pub returns-in-Some-refusal-clause-failed : goal.returns-in-Some-refusal-clause-failed
 returns-in-Some-refusal-clause-failed g c =
-    subst (λ p. HaveRolesFailed p.parts.members c.settle-settled.new.members (g.B.Bank.faults_of p.parts.bank) (g.B.Bank.faults_of c.settle-settled.new.bank)) c.self.view_is c.settle-settled.ensures.failed.roles
+    subst (λ p. HaveRolesFailed p.parts.members c.flush_and_mark-settled.new.members (g.B.Bank.faults_of p.parts.bank) (g.B.Bank.faults_of c.flush_and_mark-settled.new.bank)) c.self.view_is c.flush_and_mark-settled.ensures.failed.roles
 
 pub returns-in-Some-refusal-clause-whole : goal.returns-in-Some-refusal-clause-whole
-returns-in-Some-refusal-clause-whole g c = subst (λ p. AreWhole c.settle-settled.new.members → AreWhole p.parts.members) c.self.view_is c.settle-settled.ensures.moved.whole
+returns-in-Some-refusal-clause-whole g c = subst (λ p. AreWhole c.flush_and_mark-settled.new.members → AreWhole p.parts.members) c.self.view_is c.flush_and_mark-settled.ensures.moved.whole
 
 pub returns-clause-others : goal.returns-clause-others
 returns-clause-others g c =
-    subst (λ p. g.B.Bank.tells → AreOthersPresent (present (g.B.Bank.given p.parts.bank) (g.B.Bank.tape p.parts.bank)) (present (g.B.Bank.given p.parts.bank) (g.B.Bank.tape c.settle-settled.new.bank))) c.self.view_is c.settle-settled.ensures.others
+    subst (λ p. g.B.Bank.tells → AreOthersPresent (present (g.B.Bank.given p.parts.bank) (g.B.Bank.tape p.parts.bank)) (present (g.B.Bank.given p.parts.bank) (g.B.Bank.tape c.flush_and_mark-settled.new.bank))) c.self.view_is c.flush_and_mark-settled.ensures.others
 
 pub returns-clause-failed : goal.returns-clause-failed
 returns-clause-failed g c =
-    subst (λ p. HaveRolesFailed p.parts.members c.settle-settled.new.members (g.B.Bank.faults_of p.parts.bank) (g.B.Bank.faults_of c.settle-settled.new.bank)) c.self.view_is c.settle-settled.ensures.failed.roles
+    subst (λ p. HaveRolesFailed p.parts.members c.flush_and_mark-settled.new.members (g.B.Bank.faults_of p.parts.bank) (g.B.Bank.faults_of c.flush_and_mark-settled.new.bank)) c.self.view_is c.flush_and_mark-settled.ensures.failed.roles
 
 pub returns-clause-whole : goal.returns-clause-whole
-returns-clause-whole g c = subst (λ p. AreWhole c.settle-settled.new.members → AreWhole p.parts.members) c.self.view_is c.settle-settled.ensures.moved.whole
+returns-clause-whole g c = subst (λ p. AreWhole c.flush_and_mark-settled.new.members → AreWhole p.parts.members) c.self.view_is c.flush_and_mark-settled.ensures.moved.whole
 
 pub returns-clause-flushed : goal.returns-clause-flushed
 returns-clause-flushed g c =
-    subst (λ p. g.B.Bank.tells → AreHoldersFlushed (reading_of c.settle-settled.new.members) (g.B.Bank.given p.parts.bank) (g.B.Bank.tape c.settle-settled.new.bank)) c.self.view_is c.settle-settled.ensures.flushed
+    subst (λ p. g.B.Bank.tells → AreHoldersFlushed (reading_of c.flush_and_mark-settled.new.members) (g.B.Bank.given p.parts.bank) (g.B.Bank.tape c.flush_and_mark-settled.new.bank)) c.self.view_is c.flush_and_mark-settled.ensures.flushed

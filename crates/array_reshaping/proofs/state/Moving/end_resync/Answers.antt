@@ -109,14 +109,14 @@ invariant_of-self-in-Some-refusal g c =
     let goes : IsCallGoing a.epoch.entries.items c.args.who = subst (λ p. IsCallGoing p.parts.entries c.args.who) (sym c.self.view_is) c.requires.open in
     let some : 1 ≤ a.steps = subst (λ p. 1 ≤ p.parts.steps) (sym c.self.view_is) c.requires.room in
     let due = subst (λ p. IsResyncEndDue p) (sym c.self.view_is) c.requires.due in
-    let m = c.settle-settled.new.members in
-    let did = c.settle-settled.ensures in
+    let m = c.flush_and_mark-settled.new.members in
+    let did = c.flush_and_mark-settled.ensures in
     let tape = g.B.Bank.tape a.bank in
-    let tape' = g.B.Bank.tape c.settle-settled.new.bank in
+    let tape' = g.B.Bank.tape c.flush_and_mark-settled.new.bank in
     let before = g.B.Bank.faults_of a.bank in
-    let after = g.B.Bank.faults_of c.settle-settled.new.bank in
+    let after = g.B.Bank.faults_of c.flush_and_mark-settled.new.bank in
     let roles = c.newly_unassigned-lost.result in
-    let spares = c.settle-settled.result.spares in
+    let spares = c.flush_and_mark-settled.result.spares in
     let end = c.ops-end-2.result in
     let refusal = c.in-Some-refusal.refusal in
     let since = lost-since given a.members m c.len-count.result c.unassigned_roles-before.result roles spares before after here.placed did.moved did.failed
@@ -132,7 +132,7 @@ invariant_of-self-in-Some-refusal g c =
       safe = did.safe;
     } in
     let kept = end-refused a.work a.course a.ahead c.args.who end roles spares due.is due.aside was.kept c.in_default.ensures goes c.requires.caller c.ops-end-2.ensures.count did.grows flushed refusal
-    (many-of m c.settle-settled.result.refusal refusal c.in-Some-refusal.is did.refused) in
+    (many-of m c.flush_and_mark-settled.result.refusal refusal c.in-Some-refusal.is did.refused) in
     ready (entries_of c.args.who end (losses_of roles spares ++ Refused refusal ∷ [])) was did.grows (shapes-moved given a.members m did.moved) kept
     refl did.counts (behind-keeps c.args.who end roles spares (Refused refusal) (λ n. refl) (λ limit. refl)) (behind-whole tape' (scope_in given a.epoch.uuid a.epoch.given (Some a.backup)) a.epoch.first a.epoch.entries.items c.args.who end roles spares (Refused refusal) did.moved (missing-since roles did.moved since.vacant)) did.given (scope-same given (Some a.backup) did.given c.append_after_losses.ensures.uuid c.append_after_losses.ensures.given) c.append_after_losses.ensures.first refl c.append_after_losses.ensures.items
     (room-after-49 a.steps a.epoch.entries.room c.append_after_losses.new.epoch.entries.room was.room_left c.append_after_losses.ensures.room some)
@@ -143,18 +143,18 @@ returns-in-Some-refusal-clause-called g c =
     let here = was.kept.members_are in
     let a = c.self.inside in
     let given = g.B.Bank.given a.bank in
-    let m = c.settle-settled.new.members in
-    let did = c.settle-settled.ensures in
+    let m = c.flush_and_mark-settled.new.members in
+    let did = c.flush_and_mark-settled.ensures in
     let before = g.B.Bank.faults_of a.bank in
-    let after = g.B.Bank.faults_of c.settle-settled.new.bank in
+    let after = g.B.Bank.faults_of c.flush_and_mark-settled.new.bank in
     let roles = c.newly_unassigned-lost.result in
-    let spares = c.settle-settled.result.spares in
+    let spares = c.flush_and_mark-settled.result.spares in
     let end = c.ops-end-2.result in
     let refusal = c.in-Some-refusal.refusal in
     let since = lost-since given a.members m c.len-count.result c.unassigned_roles-before.result roles spares before after here.placed did.moved did.failed
     (c.len-count.ensures ∙ here.backed.roles) c.unassigned_roles-before.ensures c.newly_unassigned-lost.ensures in
     rw (← c.self.view_is) (called did.grows did.moved
-    (ended-behind (g.B.Bank.tape c.settle-settled.new.bank) c.append_after_losses.new.epoch.first a.epoch.entries.items c.args.who end (losses_of roles spares) (Refused refusal) c.append_after_losses.ensures.items c.ops-end-2.ensures.count)
+    (ended-behind (g.B.Bank.tape c.flush_and_mark-settled.new.bank) c.append_after_losses.new.epoch.first a.epoch.entries.items c.args.who end (losses_of roles spares) (Refused refusal) c.append_after_losses.ensures.items c.ops-end-2.ensures.count)
     (losses-behind a.members m before after a.epoch.entries.items a.epoch.entries.items c.append_after_losses.new.epoch.entries.items c.args.who end roles spares (Refused refusal) since tt refl c.append_after_losses.ensures.items)
     did.counts
     (record { uuid = c.append_after_losses.ensures.uuid; given = c.append_after_losses.ensures.given; first = c.append_after_losses.ensures.first; backup = refl; work = refl; ahead = refl; limit = refl })
@@ -163,9 +163,9 @@ returns-in-Some-refusal-clause-called g c =
 pub returns-in-Some-refusal-clause-caused : goal.returns-in-Some-refusal-clause-caused
 returns-in-Some-refusal-clause-caused g c =
     let a = c.self.inside in
-    let m = c.settle-settled.new.members in
+    let m = c.flush_and_mark-settled.new.members in
     let refusal = c.in-Some-refusal.refusal in
-    let many = many-of m c.settle-settled.result.refusal refusal c.in-Some-refusal.is c.settle-settled.ensures.refused in
+    let many = many-of m c.flush_and_mark-settled.result.refusal refusal c.in-Some-refusal.is c.flush_and_mark-settled.ensures.refused in
     rw (← c.self.view_is) (refused-for (list_length a.members.newest) 0 AreTooMany a.members m refusal (too-many-of m refusal many) (zero-le _) many)
 
 -- ---- it is done
@@ -174,7 +174,7 @@ pub all_left-left-requires-clause-open : goal.all_left-left-requires-clause-open
 all_left-left-requires-clause-open g c =
     let a = c.self.inside in
     let due = subst (λ p. IsResyncEndDue p) (sym c.self.view_is) c.requires.due in
-    aside-right c.settle-settled.new.members.newest a.course.window due.aside
+    aside-right c.flush_and_mark-settled.new.members.newest a.course.window due.aside
 
 pub invariant_of-self-2 : goal.invariant_of-self-2
 invariant_of-self-2 g c =
@@ -185,14 +185,14 @@ invariant_of-self-2 g c =
     let goes : IsCallGoing a.epoch.entries.items c.args.who = subst (λ p. IsCallGoing p.parts.entries c.args.who) (sym c.self.view_is) c.requires.open in
     let some : 1 ≤ a.steps = subst (λ p. 1 ≤ p.parts.steps) (sym c.self.view_is) c.requires.room in
     let due = subst (λ p. IsResyncEndDue p) (sym c.self.view_is) c.requires.due in
-    let m = c.settle-settled.new.members in
-    let did = c.settle-settled.ensures in
+    let m = c.flush_and_mark-settled.new.members in
+    let did = c.flush_and_mark-settled.ensures in
     let tape = g.B.Bank.tape a.bank in
-    let tape' = g.B.Bank.tape c.settle-settled.new.bank in
+    let tape' = g.B.Bank.tape c.flush_and_mark-settled.new.bank in
     let before = g.B.Bank.faults_of a.bank in
-    let after = g.B.Bank.faults_of c.settle-settled.new.bank in
+    let after = g.B.Bank.faults_of c.flush_and_mark-settled.new.bank in
     let roles = c.newly_unassigned-lost.result in
-    let spares = c.settle-settled.result.spares in
+    let spares = c.flush_and_mark-settled.result.spares in
     let end = c.ops-end-2.result in
     let left = c.all_left-left.result in
     let since = lost-since given a.members m c.len-count.result c.unassigned_roles-before.result roles spares before after here.placed did.moved did.failed
@@ -219,18 +219,18 @@ returns-clause-called g c =
     let here = was.kept.members_are in
     let a = c.self.inside in
     let given = g.B.Bank.given a.bank in
-    let m = c.settle-settled.new.members in
-    let did = c.settle-settled.ensures in
+    let m = c.flush_and_mark-settled.new.members in
+    let did = c.flush_and_mark-settled.ensures in
     let before = g.B.Bank.faults_of a.bank in
-    let after = g.B.Bank.faults_of c.settle-settled.new.bank in
+    let after = g.B.Bank.faults_of c.flush_and_mark-settled.new.bank in
     let roles = c.newly_unassigned-lost.result in
-    let spares = c.settle-settled.result.spares in
+    let spares = c.flush_and_mark-settled.result.spares in
     let end = c.ops-end-2.result in
     let event = Step EndsResync c.all_left-left.result in
     let since = lost-since given a.members m c.len-count.result c.unassigned_roles-before.result roles spares before after here.placed did.moved did.failed
     (c.len-count.ensures ∙ here.backed.roles) c.unassigned_roles-before.ensures c.newly_unassigned-lost.ensures in
     rw (← c.self.view_is) (called did.grows did.moved
-    (ended-behind (g.B.Bank.tape c.settle-settled.new.bank) c.append_after_losses-2.new.epoch.first a.epoch.entries.items c.args.who end (losses_of roles spares) event c.append_after_losses-2.ensures.items c.ops-end-2.ensures.count)
+    (ended-behind (g.B.Bank.tape c.flush_and_mark-settled.new.bank) c.append_after_losses-2.new.epoch.first a.epoch.entries.items c.args.who end (losses_of roles spares) event c.append_after_losses-2.ensures.items c.ops-end-2.ensures.count)
     (losses-behind a.members m before after a.epoch.entries.items a.epoch.entries.items c.append_after_losses-2.new.epoch.entries.items c.args.who end roles spares event since tt refl c.append_after_losses-2.ensures.items)
     did.counts
     (record { uuid = c.append_after_losses-2.ensures.uuid; given = c.append_after_losses-2.ensures.given; first = c.append_after_losses-2.ensures.first; backup = refl; work = refl; ahead = refl; limit = refl })
@@ -241,13 +241,13 @@ returns-clause-left g c =
     let was = c.self.invariant in
     let a = c.self.inside in
     let due = subst (λ p. IsResyncEndDue p) (sym c.self.view_is) c.requires.due in
-    end-left (g.B.Bank.given a.bank) a.members c.settle-settled.new.members a.work a.course a.ahead was.kept.members_are.placed.fit was.kept.members_are.active due.is c.settle-settled.ensures.moved due.aside ∙ ap (λ p. left_in p.parts.work p.parts.members p.course p.ahead) c.self.view_is
+    end-left (g.B.Bank.given a.bank) a.members c.flush_and_mark-settled.new.members a.work a.course a.ahead was.kept.members_are.placed.fit was.kept.members_are.active due.is c.flush_and_mark-settled.ensures.moved due.aside ∙ ap (λ p. left_in p.parts.work p.parts.members p.course p.ahead) c.self.view_is
 
 pub returns-clause-caused : goal.returns-clause-caused
 returns-clause-caused g c = rw (← c.self.view_is) (zero-le _, λ refusal many. never-both c.self.inside.members refusal c.in_default.ensures many)
 
 pub returns-clause-clean : goal.returns-clause-clean
-returns-clause-clean g c = c.settle-settled.ensures.clean c.in_default-refusal.is refl
+returns-clause-clean g c = c.flush_and_mark-settled.ensures.clean c.in_default-refusal.is refl
 
 pub returns-clause-good : goal.returns-clause-good
 returns-clause-good g c =
@@ -255,7 +255,7 @@ returns-clause-good g c =
     λ t fit. rows-good c.self.inside.course due.aside (invariant_of-self-2 g c).kept t fit
 
 pub returns-clause-flushed : goal.returns-clause-flushed
-returns-clause-flushed g c = subst (λ p. g.B.Bank.tells → AreHoldersFlushed (reading_of c.settle-settled.new.members) (g.B.Bank.given p.parts.bank) (g.B.Bank.tape c.settle-settled.new.bank)) c.self.view_is c.settle-settled.ensures.flushed
+returns-clause-flushed g c = subst (λ p. g.B.Bank.tells → AreHoldersFlushed (reading_of c.flush_and_mark-settled.new.members) (g.B.Bank.given p.parts.bank) (g.B.Bank.tape c.flush_and_mark-settled.new.bank)) c.self.view_is c.flush_and_mark-settled.ensures.flushed
 
 -- ---- by what stands above
 
@@ -292,10 +292,10 @@ pub append_entry-requires-clause-number : goal.append_entry-requires-clause-numb
 append_entry-requires-clause-number g c = c.check_going.ensures
 
 pub returns-in-Some-refusal-clause-entered : goal.returns-in-Some-refusal-clause-entered
-returns-in-Some-refusal-clause-entered g c = rw (← c.self.view_is) (record { roles = c.newly_unassigned-lost.result; spares = c.settle-settled.result.spares; end = c.ops-end-2.result; is = c.append_after_losses.ensures.items })
+returns-in-Some-refusal-clause-entered g c = rw (← c.self.view_is) (record { roles = c.newly_unassigned-lost.result; spares = c.flush_and_mark-settled.result.spares; end = c.ops-end-2.result; is = c.append_after_losses.ensures.items })
 
 pub returns-clause-entered : goal.returns-clause-entered
-returns-clause-entered g c = step-entered c.newly_unassigned-lost.result c.settle-settled.result.spares c.ops-end-2.result c.append_after_losses-2.ensures.items c.all_left-left.ensures (ap (λ p. p.parts.entries) c.self.view_is)
+returns-clause-entered g c = step-entered c.newly_unassigned-lost.result c.flush_and_mark-settled.result.spares c.ops-end-2.result c.append_after_losses-2.ensures.items c.all_left-left.ensures (ap (λ p. p.parts.entries) c.self.view_is)
 
 pub flush_and_mark-settled-requires-clause-placed : goal.flush_and_mark-settled-requires-clause-placed
 flush_and_mark-settled-requires-clause-placed g c = c.self.invariant.kept.members_are.placed
@@ -310,10 +310,10 @@ pub flush_and_mark-settled-requires-clause-slots : goal.flush_and_mark-settled-r
 flush_and_mark-settled-requires-clause-slots g c = c.self.invariant.kept.slots
 
 pub returns-in-Some-refusal-clause-given : goal.returns-in-Some-refusal-clause-given
-returns-in-Some-refusal-clause-given g c = c.settle-settled.ensures.given ∙ ap (λ p. g.B.Bank.given p.parts.bank) c.self.view_is
+returns-in-Some-refusal-clause-given g c = c.flush_and_mark-settled.ensures.given ∙ ap (λ p. g.B.Bank.given p.parts.bank) c.self.view_is
 
 pub returns-clause-given : goal.returns-clause-given
-returns-clause-given g c = c.settle-settled.ensures.given ∙ ap (λ p. g.B.Bank.given p.parts.bank) c.self.view_is
+returns-clause-given g c = c.flush_and_mark-settled.ensures.given ∙ ap (λ p. g.B.Bank.given p.parts.bank) c.self.view_is
 
 pub returns-in-Some-clause-given : goal.returns-in-Some-clause-given
 returns-in-Some-clause-given g c = ap (λ p. g.B.Bank.given p.parts.bank) c.self.view_is
@@ -326,24 +326,24 @@ returns-in-Some-refusal-clause-course g c = ap (λ p. p.course) c.self.view_is
 
 pub all_left-left-requires-clause-reshape : goal.all_left-left-requires-clause-reshape
 all_left-left-requires-clause-reshape g c =
-    let moved = c.settle-settled.ensures.moved in
-    under-way-of c.settle-settled.new.members.newest moved.placed.fit (moved.reshape.reshaping ∙ c.self.invariant.kept.members_are.active)
+    let moved = c.flush_and_mark-settled.ensures.moved in
+    under-way-of c.flush_and_mark-settled.new.members.newest moved.placed.fit (moved.reshape.reshaping ∙ c.self.invariant.kept.members_are.active)
 
 pub all_left-left-requires-clause-fit : goal.all_left-left-requires-clause-fit
 all_left-left-requires-clause-fit g c =
-    let moved = c.settle-settled.ensures.moved in
+    let moved = c.flush_and_mark-settled.ensures.moved in
     moved.placed.fit
 
 pub all_left-left-requires-clause-sound : goal.all_left-left-requires-clause-sound
-all_left-left-requires-clause-sound g c = sound-same (phases_of c.self.inside.ahead) (shapes-moved (g.B.Bank.given c.self.inside.bank) c.self.inside.members c.settle-settled.new.members c.settle-settled.ensures.moved) c.self.invariant.planned
+all_left-left-requires-clause-sound g c = sound-same (phases_of c.self.inside.ahead) (shapes-moved (g.B.Bank.given c.self.inside.bank) c.self.inside.members c.flush_and_mark-settled.new.members c.flush_and_mark-settled.ensures.moved) c.self.invariant.planned
 
 pub all_left-left-requires-clause-zeroed : goal.all_left-left-requires-clause-zeroed
 all_left-left-requires-clause-zeroed g c =
-    let moved = c.settle-settled.ensures.moved in
+    let moved = c.flush_and_mark-settled.ensures.moved in
     zeroed-moved _ moved c.self.invariant.kept.course_is.few
 
 pub newly_unassigned-lost-requires-clause-known : goal.newly_unassigned-lost-requires-clause-known
-newly_unassigned-lost-requires-clause-known g c = known-moved c.len-count.result c.settle-settled.ensures.moved c.len-count.ensures c.self.invariant.kept.members_are.placed.roles
+newly_unassigned-lost-requires-clause-known g c = known-moved c.len-count.result c.flush_and_mark-settled.ensures.moved c.len-count.ensures c.self.invariant.kept.members_are.placed.roles
 
 pub returns-in-Some-clause-work : goal.returns-in-Some-clause-work
 returns-in-Some-clause-work g c = ap (λ p. p.parts.work) c.self.view_is

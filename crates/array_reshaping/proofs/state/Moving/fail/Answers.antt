@@ -171,7 +171,7 @@ invariant_of-self-2 g c =
     let out = taken-out given a.members mid m c.lose_slot.result c.in-Some.slot role here.placed here.unlost c.lose_slot.ensures.members c.lose_slot.ensures.alone c.in-Some.ensures.held did.moved
     c.len-count.result c.unassigned_roles-before.result roles spares (g.B.Bank.faults_of a.bank) (g.B.Bank.faults_of c.record_missing-spares.new.bank) did.failed (c.len-count.ensures ∙ here.placed.roles)
     c.unassigned_roles-before.ensures c.newly_unassigned-roles.ensures g.B.Bank.tells tape tape' did.clean did.rise did.others did.rest did.safe in
-    let items = behind-loss c.make_room.new.self.items c.enter-2.new.epoch.entries.items c.append_after_losses.new.epoch.entries.items c.args.who end (Lost role Command) (losses_of roles spares ++ Failed role ∷ []) c.enter-2.ensures.items c.append_after_losses.ensures.items in
+    let items = behind-loss c.make_room.new.self.items c.append_entry-2.new.epoch.entries.items c.append_after_losses.new.epoch.entries.items c.args.who end (Lost role Command) (losses_of roles spares ++ Failed role ∷ []) c.append_entry-2.ensures.items c.append_after_losses.ensures.items in
     ready (entries_of c.args.who end ((Lost role Command ∷ losses_of roles spares) ++ Failed role ∷ []))
     was did.grows (shapes-moved given a.members m moved)
     (subst (λ (n : ℕ). IsMoving g.B.Bank.tells given tape' scope a.epoch.first (a.epoch.entries.items ++ entries_of c.args.who end ((Lost role Command ∷ losses_of roles spares) ++ Failed role ∷ [])) m (bears a.work) a.work.resync a.course buffer n)
@@ -179,8 +179,8 @@ invariant_of-self-2 g c =
     (failed-moves g.B.Bank.tells given tape tape' scope a.epoch.first a.epoch.entries.items a.members m (bears a.work) a.work.resync a.course buffer (left_in a.work a.members a.course a.ahead) c.args.who end role roles spares
     was.kept (holder-left given a.members role c.in-Some.slot here.placed here.unlost c.in-Some.ensures.held) (begins-going a.epoch.entries.items c.args.who number) (not_254 c.args.who.caller c.requires.caller) c.ops-end-2.ensures.count did.grows out))
     refl did.counts (record { long = (behind-keeps c.args.who end roles spares (Failed role) (λ n. refl) (λ limit. refl)).long; free = (behind-keeps c.args.who end roles spares (Failed role) (λ n. refl) (λ limit. refl)).free })
-    (λ none whole. takes-lost (world_in given tape' scope a.epoch.first) role a.epoch.entries.items (entries_of c.args.who end ((Lost role Command ∷ losses_of roles spares) ++ Failed role ∷ [])) (lost-here role c.args.who end Command (losses_of roles spares ++ Failed role ∷ [])) none) did.given (scope-same given (Some a.backup) did.given (c.append_after_losses.ensures.uuid ∙ c.enter-2.ensures.uuid) (c.append_after_losses.ensures.given ∙ c.enter-2.ensures.given)) (c.append_after_losses.ensures.first ∙ c.enter-2.ensures.first)
-    c.make_room.ensures.items items (omega (arith, c.append_after_losses.ensures.room, c.enter-2.ensures.room, c.in-Ok.ensures.ok))
+    (λ none whole. takes-lost (world_in given tape' scope a.epoch.first) role a.epoch.entries.items (entries_of c.args.who end ((Lost role Command ∷ losses_of roles spares) ++ Failed role ∷ [])) (lost-here role c.args.who end Command (losses_of roles spares ++ Failed role ∷ [])) none) did.given (scope-same given (Some a.backup) did.given (c.append_after_losses.ensures.uuid ∙ c.append_entry-2.ensures.uuid) (c.append_after_losses.ensures.given ∙ c.append_entry-2.ensures.given)) (c.append_after_losses.ensures.first ∙ c.append_entry-2.ensures.first)
+    c.make_room.ensures.items items (omega (arith, c.append_after_losses.ensures.room, c.append_entry-2.ensures.room, c.in-Ok.ensures.ok))
 
 pub returns-clause-answered : goal.returns-clause-answered
 returns-clause-answered g c =
@@ -188,7 +188,7 @@ returns-clause-answered g c =
     let roles = c.newly_unassigned-roles.result in
     let spares = c.record_missing-spares.result in
     let end = c.ops-end-2.result in
-    let items = behind-loss c.make_room.new.self.items c.enter-2.new.epoch.entries.items c.append_after_losses.new.epoch.entries.items c.args.who end (Lost role Command) (losses_of roles spares ++ Failed role ∷ []) c.enter-2.ensures.items c.append_after_losses.ensures.items in
+    let items = behind-loss c.make_room.new.self.items c.append_entry-2.new.epoch.entries.items c.append_after_losses.new.epoch.entries.items c.args.who end (Lost role Command) (losses_of roles spares ++ Failed role ∷ []) c.append_entry-2.ensures.items c.append_after_losses.ensures.items in
     fail_reply (list_length c.args.self.now.parts.members.newest) c.args.who c.args.self.now.parts.entries c.append_after_losses.new.epoch.entries.items end role roles spares
     (items ∙ ap (λ (l : List Entry). l ++ entries_of c.args.who end ((Lost role Command ∷ losses_of roles spares) ++ Failed role ∷ [])) (c.make_room.ensures.items ∙ ap (λ p. p.parts.entries) c.self.view_is))
     c.requires.next
@@ -212,12 +212,12 @@ returns-clause-called g c =
     let since = since-out given a.members mid m c.lose_slot.result c.in-Some.slot role here.placed here.unlost c.lose_slot.ensures.members c.lose_slot.ensures.alone c.in-Some.ensures.held did.moved
     c.len-count.result c.unassigned_roles-before.result roles spares before after did.failed (c.len-count.ensures ∙ here.placed.roles) c.unassigned_roles-before.ensures c.newly_unassigned-roles.ensures in
     let first = moved-out given a.members mid c.lose_slot.result c.in-Some.slot role here.placed here.unlost c.lose_slot.ensures.members c.lose_slot.ensures.alone c.in-Some.ensures.held in
-    let items = behind-loss c.make_room.new.self.items c.enter-2.new.epoch.entries.items c.append_after_losses.new.epoch.entries.items c.args.who end (Lost role Command) (losses_of roles spares ++ Failed role ∷ []) c.enter-2.ensures.items c.append_after_losses.ensures.items in
+    let items = behind-loss c.make_room.new.self.items c.append_entry-2.new.epoch.entries.items c.append_after_losses.new.epoch.entries.items c.args.who end (Lost role Command) (losses_of roles spares ++ Failed role ∷ []) c.append_entry-2.ensures.items c.append_after_losses.ensures.items in
     called-over g.B.Bank.given g.B.Bank.tape g.B.Bank.faults_of c.self.view_is (called did.grows moved
     (ended-behind (g.B.Bank.tape c.record_missing-spares.new.bank) c.append_after_losses.new.epoch.first c.make_room.new.self.items c.args.who end (Lost role Command ∷ losses_of roles spares) (Failed role) items c.ops-end-2.ensures.count)
     (losses-failed a.members mid m before after a.epoch.entries.items c.make_room.new.self.items c.append_after_losses.new.epoch.entries.items c.args.who end role c.in-Some.slot roles spares first.held first.fewer since c.in-Some.ensures.held c.make_room.ensures.items items)
     did.counts
-    (record { uuid = c.append_after_losses.ensures.uuid ∙ c.enter-2.ensures.uuid; given = c.append_after_losses.ensures.given ∙ c.enter-2.ensures.given; first = c.append_after_losses.ensures.first ∙ c.enter-2.ensures.first; backup = refl; work = refl; ahead = refl; limit = refl })
+    (record { uuid = c.append_after_losses.ensures.uuid ∙ c.append_entry-2.ensures.uuid; given = c.append_after_losses.ensures.given ∙ c.append_entry-2.ensures.given; first = c.append_after_losses.ensures.first ∙ c.append_entry-2.ensures.first; backup = refl; work = refl; ahead = refl; limit = refl })
     (λ t. (was.kept.recorded t).begun))
 
 pub returns-clause-others : goal.returns-clause-others
@@ -236,7 +236,7 @@ pub invariant_of-self : goal.invariant_of-self
 invariant_of-self g c = roomed c.make_room.ensures.items (let had = c.self.invariant.room_left in let keeps = c.make_room.ensures.keeps in omega (arith, had, keeps)) c.self.invariant
 
 pub append_after_losses-requires-clause-number : goal.append_after_losses-requires-clause-number
-append_after_losses-requires-clause-number g c = fits-longer c.make_room.new.self.items c.enter-2.new.epoch.entries.items (entries_of c.args.who c.ops-end-2.result (Lost c.args.role Command ∷ [])) c.check_number.ensures c.enter-2.ensures.items
+append_after_losses-requires-clause-number g c = fits-longer c.make_room.new.self.items c.append_entry-2.new.epoch.entries.items (entries_of c.args.who c.ops-end-2.result (Lost c.args.role Command ∷ [])) c.check_number.ensures c.append_entry-2.ensures.items
 
 pub unassigned_roles-before-requires-clause-known : goal.unassigned_roles-before-requires-clause-known
 unassigned_roles-before-requires-clause-known g c =

@@ -69,14 +69,14 @@ invariant_of-self-2 g c =
     let given = g.B.Bank.given a.bank in
     let scope = scope_in given a.epoch.uuid a.epoch.given (Some a.backup) in
     let number : c.args.who.number ≡ next_number c.args.who.caller a.epoch.entries.items = c.requires.next ∙ ap (λ p. next_number c.args.who.caller p.parts.entries) (sym c.self.view_is) in
-    let m = c.settle-settled.new.members in
-    let did = c.settle-settled.ensures in
+    let m = c.flush_and_mark-settled.new.members in
+    let did = c.flush_and_mark-settled.ensures in
     let tape = g.B.Bank.tape a.bank in
-    let tape' = g.B.Bank.tape c.settle-settled.new.bank in
+    let tape' = g.B.Bank.tape c.flush_and_mark-settled.new.bank in
     let roles = c.newly_unassigned-roles.result in
-    let spares = c.settle-settled.result.spares in
+    let spares = c.flush_and_mark-settled.result.spares in
     let end = c.ops-end-2.result in
-    let since = lost-since given a.members m c.len-count.result c.unassigned_roles-before.result roles spares (g.B.Bank.faults_of a.bank) (g.B.Bank.faults_of c.settle-settled.new.bank) was.kept.members_are.placed did.moved did.failed
+    let since = lost-since given a.members m c.len-count.result c.unassigned_roles-before.result roles spares (g.B.Bank.faults_of a.bank) (g.B.Bank.faults_of c.flush_and_mark-settled.new.bank) was.kept.members_are.placed did.moved did.failed
     (c.len-count.ensures ∙ was.kept.members_are.backed.roles) c.unassigned_roles-before.ensures c.newly_unassigned-roles.ensures in
     let flushed : AreFlushed g.B.Bank.tells given tape tape' a.members m roles c.is_some.result =
     record {
@@ -105,15 +105,15 @@ invariant_of-self-in-Some-refusal g c =
     let given = g.B.Bank.given a.bank in
     let scope = scope_in given a.epoch.uuid a.epoch.given (Some a.backup) in
     let number : c.args.who.number ≡ next_number c.args.who.caller a.epoch.entries.items = c.requires.next ∙ ap (λ p. next_number c.args.who.caller p.parts.entries) (sym c.self.view_is) in
-    let m = c.settle-settled.new.members in
-    let did = c.settle-settled.ensures in
+    let m = c.flush_and_mark-settled.new.members in
+    let did = c.flush_and_mark-settled.ensures in
     let tape = g.B.Bank.tape a.bank in
-    let tape' = g.B.Bank.tape c.settle-settled.new.bank in
+    let tape' = g.B.Bank.tape c.flush_and_mark-settled.new.bank in
     let roles = c.newly_unassigned-roles.result in
-    let spares = c.settle-settled.result.spares in
+    let spares = c.flush_and_mark-settled.result.spares in
     let end = c.ops-end-2.result in
     let refusal = c.in-Some-refusal.refusal in
-    let since = lost-since given a.members m c.len-count.result c.unassigned_roles-before.result roles spares (g.B.Bank.faults_of a.bank) (g.B.Bank.faults_of c.settle-settled.new.bank) was.kept.members_are.placed did.moved did.failed
+    let since = lost-since given a.members m c.len-count.result c.unassigned_roles-before.result roles spares (g.B.Bank.faults_of a.bank) (g.B.Bank.faults_of c.flush_and_mark-settled.new.bank) was.kept.members_are.placed did.moved did.failed
     (c.len-count.ensures ∙ was.kept.members_are.backed.roles) c.unassigned_roles-before.ensures c.newly_unassigned-roles.ensures in
     let flushed : AreFlushed g.B.Bank.tells given tape tape' a.members m roles c.is_some.result =
     record {
@@ -128,7 +128,7 @@ invariant_of-self-in-Some-refusal g c =
     } in
     let kept = unflushed-moves g.B.Bank.tells given tape tape' scope a.epoch.first a.epoch.entries.items a.members m (bears a.work) a.work.resync a.course (bytes_in a.course.window a.window.items) (left_in a.work a.members a.course a.ahead)
     c.args.who end roles spares c.is_some.result was.kept (live-of was.kept c.in_default.ensures) (begins-going a.epoch.entries.items c.args.who number) (not_254 c.args.who.caller c.requires.caller) c.ops-end-2.ensures.count did.grows flushed c.is_some.ensures refusal
-    (many-of m c.settle-settled.result.refusal refusal c.in-Some-refusal.is did.refused) in
+    (many-of m c.flush_and_mark-settled.result.refusal refusal c.in-Some-refusal.is did.refused) in
     ready (entries_of c.args.who end (losses_of roles spares ++ Refused refusal ∷ [])) was did.grows (shapes-moved given a.members m did.moved)
     (subst (λ (left : ℕ). IsMoving g.B.Bank.tells given tape' scope a.epoch.first (a.epoch.entries.items ++ entries_of c.args.who end (losses_of roles spares ++ Refused refusal ∷ [])) m (bears a.work) a.work.resync a.course (bytes_in a.course.window a.window.items) left)
     (sym (left-moved given a.members m a.work.resync a.course a.ahead did.moved)) kept)
@@ -141,18 +141,18 @@ returns-clause-called g c =
     let a = c.self.inside in
     let given = g.B.Bank.given a.bank in
     let scope = scope_in given a.epoch.uuid a.epoch.given (Some a.backup) in
-    let m = c.settle-settled.new.members in
-    let did = c.settle-settled.ensures in
+    let m = c.flush_and_mark-settled.new.members in
+    let did = c.flush_and_mark-settled.ensures in
     let before = g.B.Bank.faults_of a.bank in
-    let after = g.B.Bank.faults_of c.settle-settled.new.bank in
+    let after = g.B.Bank.faults_of c.flush_and_mark-settled.new.bank in
     let roles = c.newly_unassigned-roles.result in
-    let spares = c.settle-settled.result.spares in
+    let spares = c.flush_and_mark-settled.result.spares in
     let end = c.ops-end-2.result in
     let since = lost-since given a.members m c.len-count.result c.unassigned_roles-before.result roles spares before after was.kept.members_are.placed did.moved did.failed
     (c.len-count.ensures ∙ was.kept.members_are.backed.roles) c.unassigned_roles-before.ensures c.newly_unassigned-roles.ensures in
     rw (← c.self.view_is) (record {
       grows = did.grows;
-      ended = ended-behind (g.B.Bank.tape c.settle-settled.new.bank) c.append_after_losses-2.new.epoch.first c.make_room.new.self.items c.args.who end (losses_of roles spares) c.args.event c.append_after_losses-2.ensures.items c.ops-end-2.ensures.count;
+      ended = ended-behind (g.B.Bank.tape c.flush_and_mark-settled.new.bank) c.append_after_losses-2.new.epoch.first c.make_room.new.self.items c.args.who end (losses_of roles spares) c.args.event c.append_after_losses-2.ensures.items c.ops-end-2.ensures.count;
       held = did.moved.held;
       spares = did.moved.fewer;
       losses = losses-behind a.members m before after a.epoch.entries.items c.make_room.new.self.items c.append_after_losses-2.new.epoch.entries.items c.args.who end roles spares
@@ -178,19 +178,19 @@ returns-clause-called g c =
     })
 
 pub returns-clause-others : goal.returns-clause-others
-returns-clause-others g c = rw (← c.self.view_is) c.settle-settled.ensures.others
+returns-clause-others g c = rw (← c.self.view_is) c.flush_and_mark-settled.ensures.others
 
 pub returns-clause-failed : goal.returns-clause-failed
-returns-clause-failed g c = rw (← c.self.view_is) c.settle-settled.ensures.failed.roles
+returns-clause-failed g c = rw (← c.self.view_is) c.flush_and_mark-settled.ensures.failed.roles
 
 pub returns-clause-flushed : goal.returns-clause-flushed
-returns-clause-flushed g c = rw (← c.self.view_is) c.settle-settled.ensures.flushed
+returns-clause-flushed g c = rw (← c.self.view_is) c.flush_and_mark-settled.ensures.flushed
 
 pub returns-in-Some-refusal-clause-others : goal.returns-in-Some-refusal-clause-others
-returns-in-Some-refusal-clause-others g c = rw (← c.self.view_is) c.settle-settled.ensures.others
+returns-in-Some-refusal-clause-others g c = rw (← c.self.view_is) c.flush_and_mark-settled.ensures.others
 
 pub returns-in-Some-refusal-clause-failed : goal.returns-in-Some-refusal-clause-failed
-returns-in-Some-refusal-clause-failed g c = rw (← c.self.view_is) c.settle-settled.ensures.failed.roles
+returns-in-Some-refusal-clause-failed g c = rw (← c.self.view_is) c.flush_and_mark-settled.ensures.failed.roles
 
 pub invariant_of-self-in-Some : goal.invariant_of-self-in-Some
 invariant_of-self-in-Some g c =
@@ -248,18 +248,18 @@ returns-in-Some-refusal-clause-called g c =
     let a = c.self.inside in
     let given = g.B.Bank.given a.bank in
     let scope = scope_in given a.epoch.uuid a.epoch.given (Some a.backup) in
-    let m = c.settle-settled.new.members in
-    let did = c.settle-settled.ensures in
+    let m = c.flush_and_mark-settled.new.members in
+    let did = c.flush_and_mark-settled.ensures in
     let before = g.B.Bank.faults_of a.bank in
-    let after = g.B.Bank.faults_of c.settle-settled.new.bank in
+    let after = g.B.Bank.faults_of c.flush_and_mark-settled.new.bank in
     let roles = c.newly_unassigned-roles.result in
-    let spares = c.settle-settled.result.spares in
+    let spares = c.flush_and_mark-settled.result.spares in
     let end = c.ops-end-2.result in
     let since = lost-since given a.members m c.len-count.result c.unassigned_roles-before.result roles spares before after was.kept.members_are.placed did.moved did.failed
     (c.len-count.ensures ∙ was.kept.members_are.backed.roles) c.unassigned_roles-before.ensures c.newly_unassigned-roles.ensures in
     rw (← c.self.view_is) (record {
       grows = did.grows;
-      ended = ended-behind (g.B.Bank.tape c.settle-settled.new.bank) c.append_after_losses.new.epoch.first c.make_room.new.self.items c.args.who end (losses_of roles spares) (Refused c.in-Some-refusal.refusal) c.append_after_losses.ensures.items c.ops-end-2.ensures.count;
+      ended = ended-behind (g.B.Bank.tape c.flush_and_mark-settled.new.bank) c.append_after_losses.new.epoch.first c.make_room.new.self.items c.args.who end (losses_of roles spares) (Refused c.in-Some-refusal.refusal) c.append_after_losses.ensures.items c.ops-end-2.ensures.count;
       held = did.moved.held;
       spares = did.moved.fewer;
       losses = losses-behind a.members m before after a.epoch.entries.items c.make_room.new.self.items c.append_after_losses.new.epoch.entries.items c.args.who end roles spares
@@ -287,7 +287,7 @@ returns-in-Some-refusal-clause-called g c =
 pub returns-clause-clean : goal.returns-clause-clean
 returns-clause-clean g c = λ none.
     let synced : c.self.inside.work.resync ≡ None = ap (λ p. p.parts.work.resync) c.self.view_is ∙ none in
-    c.settle-settled.ensures.clean c.in_default-refusal.is (c.is_some.ensures ∙ ap (λ (o : Option ℕ). is_some o) synced)
+    c.flush_and_mark-settled.ensures.clean c.in_default-refusal.is (c.is_some.ensures ∙ ap (λ (o : Option ℕ). is_some o) synced)
 
 -- ---- what the searches would find too, for longer
 
@@ -357,7 +357,7 @@ flush_and_mark-settled-requires-clause-free g c = c.self.invariant.kept.members_
 
 pub newly_unassigned-roles-requires-clause-known : goal.newly_unassigned-roles-requires-clause-known
 newly_unassigned-roles-requires-clause-known g c =
-    roles-moved (g.B.Bank.given c.self.inside.bank) c.self.inside.members c.settle-settled.new.members c.settle-settled.ensures.moved c.len-count.result c.len-count.ensures c.self.invariant.kept.members_are.placed.roles
+    roles-moved (g.B.Bank.given c.self.inside.bank) c.self.inside.members c.flush_and_mark-settled.new.members c.flush_and_mark-settled.ensures.moved c.len-count.result c.len-count.ensures c.self.invariant.kept.members_are.placed.roles
 
 pub append_after_losses-requires-clause-room : goal.append_after_losses-requires-clause-room
 append_after_losses-requires-clause-room g c = room-made _ c.in-Ok.ensures.ok
@@ -367,21 +367,21 @@ append_after_losses-requires-clause-number g c = c.check_number.ensures
 
 pub returns-in-Some-refusal-clause-answered : goal.returns-in-Some-refusal-clause-answered
 returns-in-Some-refusal-clause-answered g c =
-    rw (← c.self.view_is) (behind-roomed c.args.who c.ops-end-2.result c.newly_unassigned-roles.result c.settle-settled.result.spares (Refused c.in-Some-refusal.refusal) c.make_room.ensures.items c.append_after_losses.ensures.items)
+    rw (← c.self.view_is) (behind-roomed c.args.who c.ops-end-2.result c.newly_unassigned-roles.result c.flush_and_mark-settled.result.spares (Refused c.in-Some-refusal.refusal) c.make_room.ensures.items c.append_after_losses.ensures.items)
 
 pub returns-in-Some-refusal-clause-caused : goal.returns-in-Some-refusal-clause-caused
 returns-in-Some-refusal-clause-caused g c =
     let a = c.self.inside in
-    let m = c.settle-settled.new.members in
+    let m = c.flush_and_mark-settled.new.members in
     let refusal = c.in-Some-refusal.refusal in
-    let many = many-of m c.settle-settled.result.refusal refusal c.in-Some-refusal.is c.settle-settled.ensures.refused in
+    let many = many-of m c.flush_and_mark-settled.result.refusal refusal c.in-Some-refusal.is c.flush_and_mark-settled.ensures.refused in
     rw (← c.self.view_is) (refused-for (list_length a.members.newest) 0 AreTooMany a.members m refusal (too-many-of m refusal many) zero-le many)
 
 pub returns-in-Some-refusal-clause-course : goal.returns-in-Some-refusal-clause-course
 returns-in-Some-refusal-clause-course g c = ap (λ p. p.course) c.self.view_is
 
 pub returns-in-Some-refusal-clause-given : goal.returns-in-Some-refusal-clause-given
-returns-in-Some-refusal-clause-given g c = c.settle-settled.ensures.given ∙ ap (λ p. g.B.Bank.given p.parts.bank) c.self.view_is
+returns-in-Some-refusal-clause-given g c = c.flush_and_mark-settled.ensures.given ∙ ap (λ p. g.B.Bank.given p.parts.bank) c.self.view_is
 
 pub append_after_losses-requires-2-clause-room : goal.append_after_losses-requires-2-clause-room
 append_after_losses-requires-2-clause-room g c = room-made _ c.in-Ok.ensures.ok
@@ -391,7 +391,7 @@ append_after_losses-requires-2-clause-number g c = c.check_number.ensures
 
 pub returns-clause-answered : goal.returns-clause-answered
 returns-clause-answered g c =
-    rw (← c.self.view_is) (behind-roomed c.args.who c.ops-end-2.result c.newly_unassigned-roles.result c.settle-settled.result.spares c.args.event c.make_room.ensures.items c.append_after_losses-2.ensures.items)
+    rw (← c.self.view_is) (behind-roomed c.args.who c.ops-end-2.result c.newly_unassigned-roles.result c.flush_and_mark-settled.result.spares c.args.event c.make_room.ensures.items c.append_after_losses-2.ensures.items)
 
 pub returns-clause-caused : goal.returns-clause-caused
 returns-clause-caused g c = rw (← c.self.view_is) (zero-le, λ refusal many. never-both c.self.inside.members refusal c.in_default.ensures many)
@@ -403,4 +403,4 @@ pub returns-clause-course : goal.returns-clause-course
 returns-clause-course g c = ap (λ p. p.course) c.self.view_is
 
 pub returns-clause-given : goal.returns-clause-given
-returns-clause-given g c = c.settle-settled.ensures.given ∙ ap (λ p. g.B.Bank.given p.parts.bank) c.self.view_is
+returns-clause-given g c = c.flush_and_mark-settled.ensures.given ∙ ap (λ p. g.B.Bank.given p.parts.bank) c.self.view_is

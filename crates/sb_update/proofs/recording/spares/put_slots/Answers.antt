@@ -13,11 +13,11 @@ loop-slot-preserved c =
     let slot = c.loop-slot.slot in
     elim c.if-contains.branch [
       | then-contains w ↦ record {
-        put = w.slots-is ∙ w.push.ensures ∙ ap (λ (l : List ℕ). l ++ slot ∷ []) v.write_listed ∙ sym (slots-more (has_slot c.args.set) slot (sym c.contains.ensures ∙ w.if-contains.true));
+        put = w.slots-is ∙ w.push.ensures ∙ ap (λ (l : List ℕ). l ++ slot ∷ []) v.put ∙ sym (slots-more (has_slot c.args.set) slot (sym c.contains.ensures ∙ w.if-contains.true));
         few = omega (arith, ap length w.slots-is, ap length w.push.ensures, length-append c.loop-slot.slots (slot ∷ []), v.few);
       }
       | else-contains w ↦ record {
-        put = w.slots-is ∙ v.write_listed ∙ sym (slots-none (has_slot c.args.set) slot (sym c.contains.ensures ∙ w.if-contains.false));
+        put = w.slots-is ∙ v.put ∙ sym (slots-none (has_slot c.args.set) slot (sym c.contains.ensures ∙ w.if-contains.false));
         few = omega (arith, ap length w.slots-is, v.few);
       }
     ]
