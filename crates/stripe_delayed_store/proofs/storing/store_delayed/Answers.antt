@@ -1,9 +1,9 @@
-use Rattle.std.proofs.Common.{◌≡◌, refl, sym, subst, le_trans}
+use Rattle.std.proofs.Common.{◌≡◌, refl, sym, ◌∙◌, subst, le_trans}
 use Rattle.std.specs.Prelude.{Option, Some, None, MatchOption, ⊤}
 use Rattle.sb_safe_updates.specs.bank_Given.{Given}
 use Rattle.sb_safe_updates.specs.stripe_row_Rows.{present}
 use Rattle.sb_safe_updates.specs.crash_safety_laws_Marking.{AreOthersPresent}
-use Rattle.sb_safe_updates.specs.array_members_Rebuilding.{AreSparesFree}
+use Rattle.sb_safe_updates.specs.Frame.{Stands}
 use Rattle.sb_safe_updates.specs.history_Sound.{OpensFit}
 use Rattle.sb_safe_updates.proofs.array_members_MovedLaws.{moved-then, moved-from, grows-then}
 use Rattle.sb_safe_updates.proofs.array_members_LackingLaws.{since-then, in-second}
@@ -14,10 +14,13 @@ use Rattle.stripe_delayed_store.proofs.StoredLaws.{full-stays, rebuilt-stays}
 use mathlib.Core.List.{not-mem-nil}
 use Rattle.stripe_delayed_store.proofs.storing.store_delayed.Goals as goal
 
-pub record_missing-spares-requires-clause-free : goal.record_missing-spares-requires-clause-free
-record_missing-spares-requires-clause-free g c =
+pub record_missing-spares-requires : goal.record_missing-spares-requires
+record_missing-spares-requires g c =
     let did = c.store_one-refusal.ensures in
-    subst (λ (b : Given). AreSparesFree b c.store_one-refusal.new.members) (sym did.given) (did.moved.free c.requires.free)
+    record {
+      stands = subst (λ (b : Given). Stands b c.store_one-refusal.new.members) (sym did.given)
+          (record { slots = c.requires.slots; placed = did.moved.placed; unlost = did.moved.unlost; free = did.moved.free c.requires.free });
+    }
 
 pub is_some-requires : goal.is_some-requires
 is_some-requires g c κs a has = absurd (not-mem-nil has)
@@ -63,22 +66,22 @@ returns-clause-moved g c =
     let n = c.store_one-refusal.new.members in
     let did = c.store_one-refusal.ensures in
     moved-then given c.args.members.now n c.record_missing-spares.new.members did.moved
-    (moved-from given (g.B.Bank.given c.store_one-refusal.new.bank) n n c.record_missing-spares.new.members did.given refl c.record_missing-spares.ensures.moved)
+    (moved-from given (g.B.Bank.given c.store_one-refusal.new.bank) n n c.record_missing-spares.new.members did.given refl c.record_missing-spares.ensures.keeps.moved)
 
 pub returns-clause-failed : goal.returns-clause-failed
 returns-clause-failed g c =
     since-then c.args.members.now c.store_one-refusal.new.members c.record_missing-spares.new.members 0 c.record_missing-spares.result c.record_missing-spares.result
     (g.B.Bank.faults_of c.args.bank.now) (g.B.Bank.faults_of c.store_one-refusal.new.bank) (g.B.Bank.faults_of c.record_missing-spares.new.bank)
-    c.store_one-refusal.ensures.counts c.record_missing-spares.ensures.counts c.store_one-refusal.ensures.failed c.record_missing-spares.ensures.failed (in-second c.record_missing-spares.result)
+    c.store_one-refusal.ensures.counts c.record_missing-spares.ensures.keeps.bank.counts c.store_one-refusal.ensures.failed c.record_missing-spares.ensures.keeps.failed (in-second c.record_missing-spares.result)
 
 pub returns-clause-grows : goal.returns-clause-grows
-returns-clause-grows g c = grows-then c.store_one-refusal.ensures.grows c.record_missing-spares.ensures.grows
+returns-clause-grows g c = grows-then c.store_one-refusal.ensures.grows c.record_missing-spares.ensures.keeps.bank.grows
 
 pub returns-clause-rise : goal.returns-clause-rise
-returns-clause-rise g c = risen-then c.store_one-refusal.ensures.rise c.record_missing-spares.ensures.rise
+returns-clause-rise g c = risen-then c.store_one-refusal.ensures.rise c.record_missing-spares.ensures.keeps.rise
 
 pub returns-clause-counts : goal.returns-clause-counts
-returns-clause-counts g c = λ s. le_trans (c.store_one-refusal.ensures.counts s) (c.record_missing-spares.ensures.counts s)
+returns-clause-counts g c = λ s. le_trans (c.store_one-refusal.ensures.counts s) (c.record_missing-spares.ensures.keeps.bank.counts s)
 
 pub returns-clause-full : goal.returns-clause-full
 returns-clause-full g c = λ list told own.
@@ -88,7 +91,7 @@ returns-clause-full g c = λ list told own.
     let tape2 = g.B.Bank.tape c.record_missing-spares.new.bank in
     let n = c.store_one-refusal.new.members in
     let did = c.store_one-refusal.ensures in
-    full-stays given n c.record_missing-spares.new.members (moved-from given given1 n n c.record_missing-spares.new.members did.given refl c.record_missing-spares.ensures.moved) did.moved.placed
+    full-stays given n c.record_missing-spares.new.members (moved-from given given1 n n c.record_missing-spares.new.members did.given refl c.record_missing-spares.ensures.keeps.moved) did.moved.placed
     (present given tape1) (present given tape2)
     (subst (λ (b : Given). AreOthersPresent (present b tape1) (present b tape2)) did.given (c.record_missing-spares.ensures.others told))
     c.args.shape.now list c.args.row (did.full list told own)
@@ -101,7 +104,7 @@ returns-clause-rebuilt g c = λ stored list told own differ.
     let tape2 = g.B.Bank.tape c.record_missing-spares.new.bank in
     let n = c.store_one-refusal.new.members in
     let did = c.store_one-refusal.ensures in
-    rebuilt-stays given n c.record_missing-spares.new.members (moved-from given given1 n n c.record_missing-spares.new.members did.given refl c.record_missing-spares.ensures.moved) did.moved.placed
+    rebuilt-stays given n c.record_missing-spares.new.members (moved-from given given1 n n c.record_missing-spares.new.members did.given refl c.record_missing-spares.ensures.keeps.moved) did.moved.placed
     (present given (g.B.Bank.tape c.args.bank.now)) (present given tape1) (present given tape2)
     (subst (λ (b : Given). AreOthersPresent (present b tape1) (present b tape2)) did.given (c.record_missing-spares.ensures.others told))
     c.args.shape.now stored list c.args.row (did.rebuilt stored list told own differ)
@@ -115,7 +118,7 @@ returns-clause-others g c = λ told.
     let tape2 = g.B.Bank.tape c.record_missing-spares.new.bank in
     let n = c.store_one-refusal.new.members in
     let did = c.store_one-refusal.ensures in
-    let moved = moved-from given given1 n n c.record_missing-spares.new.members did.given refl c.record_missing-spares.ensures.moved in
+    let moved = moved-from given given1 n n c.record_missing-spares.new.members did.given refl c.record_missing-spares.ensures.keeps.moved in
     others-then given (λ other. other ≡ c.args.row) c.args.members.now n c.record_missing-spares.new.members (present given tape0) (present given tape1) (present given tape2) moved (did.others told)
     (others-same given (λ other. other ≡ c.args.row) n c.record_missing-spares.new.members (present given tape1) (present given tape2) moved did.moved.placed
     (subst (λ (b : Given). AreOthersPresent (present b tape1) (present b tape2)) did.given (c.record_missing-spares.ensures.others told)))
@@ -134,3 +137,6 @@ returns-clause-safe g c = λ told world ledger room gone unclean dirty region li
     safe-then (OpensFit world) world.scope given ledger n c.record_missing-spares.new.members tape0 tape1 tape2 one
     (keeps-from world given given1 ledger c.record_missing-spares.new.members tape1 tape2 did.given
     (named.safe told world ledger (room-then tape2 told room did.rise) gone (λ is. unclean) (over-at world given given1 ledger n tape1 did.given one.next)))
+
+pub returns-clause-given : goal.returns-clause-given
+returns-clause-given g c = c.record_missing-spares.ensures.keeps.bank.same ∙ c.store_one-refusal.ensures.given
