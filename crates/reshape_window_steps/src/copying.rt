@@ -12,7 +12,8 @@ ghost use Rattle.reshape_window_rows.specs.crash_views_Views.{Ledger};
 ghost use Rattle.reshape_window_rows.specs.crash_views_Windows.{IsCopyable};
 ghost use Rattle.reshape_window_rows.specs.crash_safety_laws_Safety.{HasLiveSlot, HasRoomLeft};
 ghost use Rattle.reshape_window_rows.specs.sb_safe_updates_Named.{AreNamedMissing};
-ghost use Rattle.reshape_window_rows.specs.crash_safety_laws_Steady.{IsSafeOver, KeepsSafe, AreGoneTold, IsUncleanTold};
+ghost use Rattle.reshape_window_rows.specs.crash_safety_laws_Steady.{AreUnlost, IsSafeOver, KeepsSafe, AreGoneTold, IsUncleanTold};
+ghost use Rattle.reshape_window_rows.specs.array_members_Placed.{IsPlaced};
 ghost use Rattle.reshape_window_rows.specs.array_members_Lacking.{DoesWithout, AreTooMany, AreOtherRowsKept, IsOfStripe};
 ghost use Rattle.reshape_window_rows.specs.Copies.{IsRoomFor, tail_of, IsCopied, IsStripeOf};
 ghost use Rattle.reshape_window_steps.specs.Copying.{IsOfStripeFrom, AreHeadersKept};
@@ -55,7 +56,9 @@ fn copy_stretch<B: Bank>(
     buffer: &[u8],
     scratch: &mut [u8],
 ) -> Stretch
-    requires stands { Stands (B.given bank.old) members.old }
+    requires slots { (B.given bank.old).slots ≤ 32 }
+    requires placed { IsPlaced (B.given bank.old) members.old }
+    requires unlost { AreUnlost members.old }
     requires shape { shape.now ≡ final_shape members.old.newest }
     requires next { next_window members.old.newest ≡ Some span.now }
     requires stripe { IsStripeOf shape.now span.now stripe }

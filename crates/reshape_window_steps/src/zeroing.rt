@@ -11,7 +11,8 @@ ghost use Rattle.reshape_window_rows.specs.crash_views_Regions.{DoWithout};
 ghost use Rattle.reshape_window_rows.specs.crash_views_Views.{Ledger};
 ghost use Rattle.reshape_window_rows.specs.crash_safety_laws_Safety.{HasLiveSlot, HasRoomLeft};
 ghost use Rattle.reshape_window_rows.specs.sb_safe_updates_Named.{AreNamedMissing};
-ghost use Rattle.reshape_window_rows.specs.crash_safety_laws_Steady.{IsSafeOver, KeepsSafe, AreGoneTold, IsUncleanTold};
+ghost use Rattle.reshape_window_rows.specs.crash_safety_laws_Steady.{AreUnlost, IsSafeOver, KeepsSafe, AreGoneTold, IsUncleanTold};
+ghost use Rattle.reshape_window_rows.specs.array_members_Placed.{IsPlaced};
 ghost use Rattle.reshape_window_rows.specs.array_members_Lacking.{DoesWithout, AreTooMany, AreOtherRowsKept, IsOfStripe};
 ghost use Rattle.reshape_window_rows.specs.Copies.{tail_of, IsZeroIn, IsPastStripe};
 ghost use Rattle.reshape_window_steps.specs.Copying.{AreHeadersKept, IsOfStripeFrom};
@@ -30,7 +31,9 @@ fn zero_stretch<B: Bank>(
     done: u64,
     scratch: &mut [u8],
 ) -> Stretch
-    requires stands { Stands (B.given bank.old) members.old }
+    requires slots { (B.given bank.old).slots ≤ 32 }
+    requires placed { IsPlaced (B.given bank.old) members.old }
+    requires unlost { AreUnlost members.old }
     requires shape { shape.now ≡ final_shape members.old.newest }
     requires through { IsThrough members.old.newest }
     requires stripe { IsPastStripe shape.now members.old.newest.size (list_length members.old.newest) stripe }

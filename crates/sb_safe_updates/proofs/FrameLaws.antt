@@ -9,12 +9,12 @@ use Rattle.array_members.specs.history_World.{World}
 use Rattle.array_members.specs.history_Sound.{OpensFit}
 use Rattle.array_members.specs.crash_views_Views.{Ledger}
 use Rattle.array_members.specs.crash_safety_laws_Safety.{HasRoomLeft, IsRisen}
-use Rattle.array_members.specs.crash_safety_laws_Steady.{IsSafeOver, KeepsSafe, AreGoneTold}
+use Rattle.array_members.specs.crash_safety_laws_Steady.{AreUnlost, IsSafeOver, KeepsSafe, AreGoneTold}
 use Rattle.array_members.specs.stripe_row_Rows.{members_without}
 use Rattle.array_members.specs.Under.{IsRestKept}
 use Rattle.array_members.specs.Lacking.{HaveFailedSince}
 use Rattle.array_members.specs.Moving.{Grows, IsMoved}
-use Rattle.array_members.specs.Placed.{AreLost}
+use Rattle.array_members.specs.Placed.{AreLost, IsPlaced}
 use Rattle.sb_safe_updates.specs.Unused.{IsUnusedKept}
 use Rattle.array_members.proofs.MovedLaws.{moved-then, moved-same, moved-from, moved-lost, grows-none, grows-then}
 use Rattle.array_members.proofs.LackingLaws.{since-same, since-then, since-lost, IsUnion}
@@ -61,11 +61,11 @@ module _ {B : Type 0} {tells : Type 0} {given : B → Given} {tape : B → List 
       (record { slots = stands.slots; placed = did.moved.placed; unlost = did.moved.unlost; free = did.moved.free stands.free })
 
   -- slots were lost in a call on the rows
-  pub members-lost : (a b : B) (shape : Shape) (m n : Members) (lost : ℕ) → Stands (given a) m → AreLost (given a) shape m n lost (faults a) (faults b) → given b ≡ given a
+  pub members-lost : (a b : B) (shape : Shape) (m n : Members) (lost : ℕ) → IsPlaced (given a) m → AreUnlost m → AreLost (given a) shape m n lost (faults a) (faults b) → given b ≡ given a
       → Grows tells (tape a) (tape b) → KeepsMembers tells given tape faults a b m n 0
-  members-lost a b shape m n lost stands did same grows = record {
+  members-lost a b shape m n lost placed unlost did same grows = record {
     bank = record { same = same; grows = grows; counts = did.never_falls };
-    moved = moved-lost (given a) shape m n lost (faults a) (faults b) stands.placed did stands.unlost;
+    moved = moved-lost (given a) shape m n lost (faults a) (faults b) placed did unlost;
     failed = since-lost (given a) shape m n lost (faults a) (faults b) did;
     rise = risen-lost m n lost (tape a) (tape b) did.members (λ told. grows-longer grows told);
   }
@@ -101,11 +101,11 @@ module _ {B : Type 0} {tells : Type 0} {given : B → Given} {tape : B → List 
       (record { slots = stands.slots; placed = did.moved.placed; unlost = did.moved.unlost; free = did.moved.free stands.free })
 
   -- slots were lost in a call on the rows
-  pub keeps-lost : (a b : B) (shape : Shape) (m n : Members) (lost : ℕ) → Stands (given a) m → AreLost (given a) shape m n lost (faults a) (faults b) → given b ≡ given a
+  pub keeps-lost : (a b : B) (shape : Shape) (m n : Members) (lost : ℕ) → IsPlaced (given a) m → AreUnlost m → AreLost (given a) shape m n lost (faults a) (faults b) → given b ≡ given a
       → Grows tells (tape a) (tape b) → (tells → IsUnusedKept m (disk (given a).start (tape a)) (disk (given a).start (tape b))) → Keeps tells given tape faults a b m n 0
-  keeps-lost a b shape m n lost stands did same grows unused = record {
+  keeps-lost a b shape m n lost placed unlost did same grows unused = record {
     bank = record { same = same; grows = grows; counts = did.never_falls };
-    moved = moved-lost (given a) shape m n lost (faults a) (faults b) stands.placed did stands.unlost;
+    moved = moved-lost (given a) shape m n lost (faults a) (faults b) placed did unlost;
     failed = since-lost (given a) shape m n lost (faults a) (faults b) did;
     rise = risen-lost m n lost (tape a) (tape b) did.members (λ told. grows-longer grows told);
     unused = unused;

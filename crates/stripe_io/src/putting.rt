@@ -9,8 +9,8 @@ ghost use Rattle.sb_safe_updates.specs.stripe_list_Buffers.{buffered, AreDistinc
 ghost use Rattle.sb_safe_updates.specs.stripe_list_Full.{AreWholeIn, RowStands};
 ghost use Rattle.sb_safe_updates.specs.stripe_list_Writing.{IsWritten, AreDataFrom, HasFull};
 ghost use Rattle.sb_safe_updates.specs.raid_types_Shapes.{data_disks};
-ghost use Rattle.sb_safe_updates.specs.array_members_Placed.{AreWhole, IsInForce};
-ghost use Rattle.sb_safe_updates.specs.crash_safety_laws_Steady.{IsSafeOver, KeepsSafe, AreGoneTold, AreWritesAllowed};
+ghost use Rattle.sb_safe_updates.specs.array_members_Placed.{IsPlaced, AreWhole, IsInForce};
+ghost use Rattle.sb_safe_updates.specs.crash_safety_laws_Steady.{AreUnlost, IsSafeOver, KeepsSafe, AreGoneTold, AreWritesAllowed};
 ghost use Rattle.sb_safe_updates.specs.crash_safety_laws_Marking.{AreOthersPresent};
 ghost use Rattle.sb_safe_updates.specs.crash_safety_laws_Safety.{HasRoomLeft};
 ghost use Rattle.sb_safe_updates.specs.crash_views_Windows.{IsOfRegion};
@@ -58,7 +58,9 @@ fn write_stretch<B: Bank>(
     start: usize,
     buffer: &mut Vec<u8>,
 ) -> Part
-    requires stands { Stands (B.given bank.old) members.old }
+    requires slots { (B.given bank.old).slots ≤ 32 }
+    requires placed { IsPlaced (B.given bank.old) members.old }
+    requires unlost { AreUnlost members.old }
     requires shape { IsInForce members.old.newest shape.now }
     requires from { IsWhole from.now }
     requires short { first + length from.now / 512 < 2 ^ 63 }

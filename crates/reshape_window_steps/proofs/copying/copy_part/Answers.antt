@@ -125,5 +125,11 @@ returns-clause-headers g c = λ told s v may.
 pub returns-clause-clean : goal.returns-clause-clean
 returns-clause-clean g c = c.record_missing-spares.ensures.clean ∙ c.copy_stretch-done.ensures.clean
 
-pub copy_stretch-done-requires-clause-stands : goal.copy_stretch-done-requires-clause-stands
-copy_stretch-done-requires-clause-stands g c = c.requires.stands
+pub copy_stretch-done-requires-clause-slots : goal.copy_stretch-done-requires-clause-slots
+copy_stretch-done-requires-clause-slots g c = c.requires.stands.slots
+
+pub copy_stretch-done-requires-clause-placed : goal.copy_stretch-done-requires-clause-placed
+copy_stretch-done-requires-clause-placed g c = c.requires.stands.placed
+
+pub copy_stretch-done-requires-clause-unlost : goal.copy_stretch-done-requires-clause-unlost
+copy_stretch-done-requires-clause-unlost g c = c.requires.stands.unlost

@@ -107,5 +107,11 @@ returns-clause-headers g c = λ told s v may.
 pub returns-clause-clean : goal.returns-clause-clean
 returns-clause-clean g c = c.record_missing-spares.ensures.clean ∙ c.zero_stretch-done.ensures.clean
 
-pub zero_stretch-done-requires-clause-stands : goal.zero_stretch-done-requires-clause-stands
-zero_stretch-done-requires-clause-stands g c = c.requires.stands
+pub zero_stretch-done-requires-clause-slots : goal.zero_stretch-done-requires-clause-slots
+zero_stretch-done-requires-clause-slots g c = c.requires.stands.slots
+
+pub zero_stretch-done-requires-clause-placed : goal.zero_stretch-done-requires-clause-placed
+zero_stretch-done-requires-clause-placed g c = c.requires.stands.placed
+
+pub zero_stretch-done-requires-clause-unlost : goal.zero_stretch-done-requires-clause-unlost
+zero_stretch-done-requires-clause-unlost g c = c.requires.stands.unlost

@@ -17,7 +17,7 @@ use Rattle.reshape_window_rows.proofs.sb_safe_updates_FrameLaws.{keeps-lost}
 use Rattle.reshape_window_steps.proofs.zeroing.zero_stretch.Goals as goal
 
 pub zero_stripe-zeroed-requires-clause-rows : goal.zero_stripe-zeroed-requires-clause-rows
-zero_stripe-zeroed-requires-clause-rows g c = has-rows (g.B.Bank.given c.args.bank.now) c.args.members.now c.requires.stands.placed c.args.shape.now (inr c.requires.shape)
+zero_stripe-zeroed-requires-clause-rows g c = has-rows (g.B.Bank.given c.args.bank.now) c.args.members.now c.requires.placed c.args.shape.now (inr c.requires.shape)
 
 pub returns-clause-keeps : goal.returns-clause-keeps
 returns-clause-keeps g c =
@@ -26,20 +26,20 @@ returns-clause-keeps g c =
     let given = g.B.Bank.given c.args.bank.now in
     let did = c.zero_stripe-zeroed.ensures in
     let lost = are_lost given c.args.shape.now m n c.zero_stripe-zeroed.result.lost (g.B.Bank.faults_of c.args.bank.now) (g.B.Bank.faults_of c.zero_stripe-zeroed.new.bank)
-    c.requires.stands.placed did.lost.members did.lost.failed did.lost.never_falls in
-    keeps-lost c.args.bank.now c.zero_stripe-zeroed.new.bank c.args.shape.now m n c.zero_stripe-zeroed.result.lost c.requires.stands lost did.given (grows-marks c.zero_stripe-zeroed.ensures.each_mark)
+    c.requires.placed did.lost.members did.lost.failed did.lost.never_falls in
+    keeps-lost c.args.bank.now c.zero_stripe-zeroed.new.bank c.args.shape.now m n c.zero_stripe-zeroed.result.lost c.requires.placed c.requires.unlost lost did.given (grows-marks c.zero_stripe-zeroed.ensures.each_mark)
     (λ told s k v unused may.
     let kept = marks_last did.each_mark told in
     elim (kept.0 s k) [
       | inl same ↦ same v may
-      | inr at ↦ absurd (unused-role given m c.requires.stands.placed s unused at.role at.held)
+      | inr at ↦ absurd (unused-role given m c.requires.placed s unused at.role at.held)
     ])
 
 pub returns-clause-safe : goal.returns-clause-safe
 returns-clause-safe g c = λ told world ledger safe.
     let did = c.zero_stripe-zeroed.ensures in
     safe-zeroed (OpensFit world) world.scope (g.B.Bank.given c.args.bank.now) ledger c.args.members.now c.zero_stripe-zeroed.new.members c.zero_stripe-zeroed.result.lost
-    (g.B.Bank.tape c.args.bank.now) (g.B.Bank.tape c.zero_stripe-zeroed.new.bank) told did.lost.members c.requires.stands.placed.holders c.requires.stands.unlost c.requires.through did.each_mark safe
+    (g.B.Bank.tape c.args.bank.now) (g.B.Bank.tape c.zero_stripe-zeroed.new.bank) told did.lost.members c.requires.placed.holders c.requires.unlost c.requires.through did.each_mark safe
 
 pub returns-clause-stands : goal.returns-clause-stands
 returns-clause-stands g c = λ told list zeros row at.

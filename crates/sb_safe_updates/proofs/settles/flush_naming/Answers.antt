@@ -36,7 +36,7 @@ record_missing-requires g c =
     let lost : AreLost given (widest m.newest) m n c.flush_members-failed.result f0 f1 =
     lost-all given m n c.flush_members-failed.result f0 f1 c.requires.stands.placed c.lose_slots.ensures did1.failed did1.counts.never_falls in
     let flushed : Keeps g.B.Bank.tells g.B.Bank.given g.B.Bank.tape g.B.Bank.faults_of c.args.bank.now c.flush_members-failed.new.bank m n 0 =
-    keeps-lost c.args.bank.now c.flush_members-failed.new.bank (widest m.newest) m n c.flush_members-failed.result c.requires.stands lost did1.given
+    keeps-lost c.args.bank.now c.flush_members-failed.new.bank (widest m.newest) m n c.flush_members-failed.result c.requires.stands.placed c.requires.stands.unlost lost did1.given
     (record { more = λ told. let added = did1.tape told in (added.0, added.2) })
     (λ told s k v idle may. flushed-fewer given.start (g.B.Bank.tape c.args.bank.now) (g.B.Bank.tape c.flush_members-failed.new.bank) (did1.tape told) s k v may) in
     record { stands = stands-on flushed c.requires.stands }
@@ -52,7 +52,7 @@ returns-clause-keeps g c =
     let lost : AreLost given (widest m.newest) m n c.flush_members-failed.result f0 f1 =
     lost-all given m n c.flush_members-failed.result f0 f1 c.requires.stands.placed c.lose_slots.ensures did1.failed did1.counts.never_falls in
     let flushed : Keeps g.B.Bank.tells g.B.Bank.given g.B.Bank.tape g.B.Bank.faults_of c.args.bank.now c.flush_members-failed.new.bank m n 0 =
-    keeps-lost c.args.bank.now c.flush_members-failed.new.bank (widest m.newest) m n c.flush_members-failed.result c.requires.stands lost did1.given
+    keeps-lost c.args.bank.now c.flush_members-failed.new.bank (widest m.newest) m n c.flush_members-failed.result c.requires.stands.placed c.requires.stands.unlost lost did1.given
     (record { more = λ told. let added = did1.tape told in (added.0, added.2) })
     (λ told s k v idle may. flushed-fewer given.start (g.B.Bank.tape c.args.bank.now) (g.B.Bank.tape c.flush_members-failed.new.bank) (did1.tape told) s k v may) in
     keeps-then flushed c.record_missing.ensures.keeps (in-second c.record_missing.result)

@@ -40,7 +40,7 @@ returns-then-is_some-clause-keeps g c =
     let did = c.read_touched-read.ensures in
     let lost = lost-of (g.B.Bank.given c.args.bank.now) c.args.shape.now m n r (g.B.Bank.faults_of c.args.bank.now) (g.B.Bank.faults_of c.read_touched-read.new.bank) c.requires.stands.placed did.lost in
     let read : KeepsMembers g.B.Bank.tells g.B.Bank.given g.B.Bank.tape g.B.Bank.faults_of c.args.bank.now c.read_touched-read.new.bank m n 0 =
-    members-lost c.args.bank.now c.read_touched-read.new.bank c.args.shape.now m n r c.requires.stands lost did.given (grows-none did.tape) in
+    members-lost c.args.bank.now c.read_touched-read.new.bank c.args.shape.now m n r c.requires.stands.placed c.requires.stands.unlost lost did.given (grows-none did.tape) in
     read
 
 pub returns-then-is_some-clause-safe : goal.returns-then-is_some-clause-safe
@@ -72,7 +72,7 @@ record_missing-named-requires g c =
     let did = c.read_touched-read.ensures in
     let lost = lost-of (g.B.Bank.given c.args.bank.now) c.args.shape.now m n r (g.B.Bank.faults_of c.args.bank.now) (g.B.Bank.faults_of c.read_touched-read.new.bank) c.requires.stands.placed did.lost in
     let read : KeepsMembers g.B.Bank.tells g.B.Bank.given g.B.Bank.tape g.B.Bank.faults_of c.args.bank.now c.read_touched-read.new.bank m n 0 =
-    members-lost c.args.bank.now c.read_touched-read.new.bank c.args.shape.now m n r c.requires.stands lost did.given (grows-none did.tape) in
+    members-lost c.args.bank.now c.read_touched-read.new.bank c.args.shape.now m n r c.requires.stands.placed c.requires.stands.unlost lost did.given (grows-none did.tape) in
     record { stands = members-stand-on read c.requires.stands }
 
 pub returns-then-is_some-2-clause-keeps : goal.returns-then-is_some-2-clause-keeps
@@ -83,7 +83,7 @@ returns-then-is_some-2-clause-keeps g c =
     let did = c.read_touched-read.ensures in
     let lost = lost-of (g.B.Bank.given c.args.bank.now) c.args.shape.now m n r (g.B.Bank.faults_of c.args.bank.now) (g.B.Bank.faults_of c.read_touched-read.new.bank) c.requires.stands.placed did.lost in
     let read : KeepsMembers g.B.Bank.tells g.B.Bank.given g.B.Bank.tape g.B.Bank.faults_of c.args.bank.now c.read_touched-read.new.bank m n 0 =
-    members-lost c.args.bank.now c.read_touched-read.new.bank c.args.shape.now m n r c.requires.stands lost did.given (grows-none did.tape) in
+    members-lost c.args.bank.now c.read_touched-read.new.bank c.args.shape.now m n r c.requires.stands.placed c.requires.stands.unlost lost did.given (grows-none did.tape) in
     members-then read (members-of c.record_missing-named.ensures.keeps) (in-second c.record_missing-named.result)
 
 pub returns-then-is_some-2-clause-clean : goal.returns-then-is_some-2-clause-clean
@@ -153,7 +153,7 @@ fill_rows-lost-requires-clause-stands g c =
     let did = c.read_touched-read.ensures in
     let lost = lost-of (g.B.Bank.given c.args.bank.now) c.args.shape.now m n r (g.B.Bank.faults_of c.args.bank.now) (g.B.Bank.faults_of c.read_touched-read.new.bank) c.requires.stands.placed did.lost in
     let read : KeepsMembers g.B.Bank.tells g.B.Bank.given g.B.Bank.tape g.B.Bank.faults_of c.args.bank.now c.read_touched-read.new.bank m n 0 =
-    members-lost c.args.bank.now c.read_touched-read.new.bank c.args.shape.now m n r c.requires.stands lost did.given (grows-none did.tape) in
+    members-lost c.args.bank.now c.read_touched-read.new.bank c.args.shape.now m n r c.requires.stands.placed c.requires.stands.unlost lost did.given (grows-none did.tape) in
     let named : KeepsMembers g.B.Bank.tells g.B.Bank.given g.B.Bank.tape g.B.Bank.faults_of c.args.bank.now c.record_missing-named.new.bank m c.record_missing-named.new.members c.record_missing-named.result =
     members-then read (members-of c.record_missing-named.ensures.keeps) (in-second c.record_missing-named.result) in
     members-stand-on named c.requires.stands
@@ -281,7 +281,7 @@ returns-clause-keeps g c =
     let did = c.read_touched-read.ensures in
     let lost = lost-of (g.B.Bank.given c.args.bank.now) c.args.shape.now m n r (g.B.Bank.faults_of c.args.bank.now) (g.B.Bank.faults_of c.read_touched-read.new.bank) c.requires.stands.placed did.lost in
     let read : KeepsMembers g.B.Bank.tells g.B.Bank.given g.B.Bank.tape g.B.Bank.faults_of c.args.bank.now c.read_touched-read.new.bank m n 0 =
-    members-lost c.args.bank.now c.read_touched-read.new.bank c.args.shape.now m n r c.requires.stands lost did.given (grows-none did.tape) in
+    members-lost c.args.bank.now c.read_touched-read.new.bank c.args.shape.now m n r c.requires.stands.placed c.requires.stands.unlost lost did.given (grows-none did.tape) in
     let named : KeepsMembers g.B.Bank.tells g.B.Bank.given g.B.Bank.tape g.B.Bank.faults_of c.args.bank.now c.record_missing-named.new.bank m c.record_missing-named.new.members c.record_missing-named.result =
     members-then read (members-of c.record_missing-named.ensures.keeps) (in-second c.record_missing-named.result) in
     members-then named c.fill_rows-lost.ensures.keeps (in-either c.record_missing-named.result c.fill_rows-lost.result)

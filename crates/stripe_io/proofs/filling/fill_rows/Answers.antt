@@ -81,7 +81,7 @@ record_missing-requires g c =
     let lost : AreLost given shape m n c.lose_slot.result f0 f1 = lost-of given shape m n c.lose_slot.result f0 f1 c.requires.stands.placed
     (slot_lost shape m n c.lose_slot.result slot role f0 f1 c.lose_slot.ensures.members c.lose_slot.ensures.alone c.requires.role (ap holder recovers) (c.write_filled.ensures.failed c.if-write_filled.false) c.write_filled.ensures.bank.counts) in
     let first : KeepsMembers g.B.Bank.tells g.B.Bank.given g.B.Bank.tape g.B.Bank.faults_of c.args.bank.now c.write_filled.new.bank m n 0 =
-    members-lost c.args.bank.now c.write_filled.new.bank shape m n c.lose_slot.result c.requires.stands lost c.write_filled.ensures.bank.same c.write_filled.ensures.bank.grows in
+    members-lost c.args.bank.now c.write_filled.new.bank shape m n c.lose_slot.result c.requires.stands.placed c.requires.stands.unlost lost c.write_filled.ensures.bank.same c.write_filled.ensures.bank.grows in
     record { stands = members-stand-on first c.requires.stands }
 
 pub returns-clause-keeps : goal.returns-clause-keeps
@@ -99,7 +99,7 @@ returns-clause-keeps g c =
     let lost : AreLost given shape m n c.lose_slot.result f0 f1 = lost-of given shape m n c.lose_slot.result f0 f1 c.requires.stands.placed
     (slot_lost shape m n c.lose_slot.result slot role f0 f1 c.lose_slot.ensures.members c.lose_slot.ensures.alone c.requires.role (ap holder recovers) (c.write_filled.ensures.failed c.if-write_filled.false) c.write_filled.ensures.bank.counts) in
     let first : KeepsMembers g.B.Bank.tells g.B.Bank.given g.B.Bank.tape g.B.Bank.faults_of c.args.bank.now c.write_filled.new.bank m n 0 =
-    members-lost c.args.bank.now c.write_filled.new.bank shape m n c.lose_slot.result c.requires.stands lost c.write_filled.ensures.bank.same c.write_filled.ensures.bank.grows in
+    members-lost c.args.bank.now c.write_filled.new.bank shape m n c.lose_slot.result c.requires.stands.placed c.requires.stands.unlost lost c.write_filled.ensures.bank.same c.write_filled.ensures.bank.grows in
     members-then first (members-of c.record_missing.ensures.keeps) (in-second c.record_missing.result)
 
 pub returns-clause-clean : goal.returns-clause-clean

@@ -177,7 +177,7 @@ returns-then-is_err-clause-keeps g c =
     let shape = c.args.shape.now in
     let did = c.read_touched-read.ensures in
     let read : Keeps g.B.Bank.tells g.B.Bank.given g.B.Bank.tape g.B.Bank.faults_of c.args.bank.now c.read_touched-read.new.bank m n 0 =
-    keeps-lost c.args.bank.now c.read_touched-read.new.bank shape m n r c.requires.stands (lost-of given shape m n r f0 f1 c.requires.stands.placed did.lost) did.given (grows-none did.tape)
+    keeps-lost c.args.bank.now c.read_touched-read.new.bank shape m n r c.requires.stands.placed c.requires.stands.unlost (lost-of given shape m n r f0 f1 c.requires.stands.placed did.lost) did.given (grows-none did.tape)
     (λ told. read-unused m given.start (g.B.Bank.tape c.args.bank.now) (g.B.Bank.tape c.read_touched-read.new.bank) (did.tape told)) in
     read
 
@@ -192,7 +192,7 @@ mark_dirty-spares-requires g c =
     let shape = c.args.shape.now in
     let did = c.read_touched-read.ensures in
     let read : Keeps g.B.Bank.tells g.B.Bank.given g.B.Bank.tape g.B.Bank.faults_of c.args.bank.now c.read_touched-read.new.bank m n 0 =
-    keeps-lost c.args.bank.now c.read_touched-read.new.bank shape m n r c.requires.stands (lost-of given shape m n r f0 f1 c.requires.stands.placed did.lost) did.given (grows-none did.tape)
+    keeps-lost c.args.bank.now c.read_touched-read.new.bank shape m n r c.requires.stands.placed c.requires.stands.unlost (lost-of given shape m n r f0 f1 c.requires.stands.placed did.lost) did.given (grows-none did.tape)
     (λ told. read-unused m given.start (g.B.Bank.tape c.args.bank.now) (g.B.Bank.tape c.read_touched-read.new.bank) (did.tape told)) in
     record { stands = stands-on read c.requires.stands }
 
@@ -207,7 +207,7 @@ returns-clause-keeps g c =
     let shape = c.args.shape.now in
     let did = c.read_touched-read.ensures in
     let read : Keeps g.B.Bank.tells g.B.Bank.given g.B.Bank.tape g.B.Bank.faults_of c.args.bank.now c.read_touched-read.new.bank m n 0 =
-    keeps-lost c.args.bank.now c.read_touched-read.new.bank shape m n r c.requires.stands (lost-of given shape m n r f0 f1 c.requires.stands.placed did.lost) did.given (grows-none did.tape)
+    keeps-lost c.args.bank.now c.read_touched-read.new.bank shape m n r c.requires.stands.placed c.requires.stands.unlost (lost-of given shape m n r f0 f1 c.requires.stands.placed did.lost) did.given (grows-none did.tape)
     (λ told. read-unused m given.start (g.B.Bank.tape c.args.bank.now) (g.B.Bank.tape c.read_touched-read.new.bank) (did.tape told)) in
     let raised = c.mark_dirty-spares.ensures in
     keeps-then read raised.keeps (in-second c.mark_dirty-spares.result)
@@ -223,7 +223,7 @@ returns-clause-safe g c = λ told world ledger room gone unclean safe.
     let shape = c.args.shape.now in
     let did = c.read_touched-read.ensures in
     let read : Keeps g.B.Bank.tells g.B.Bank.given g.B.Bank.tape g.B.Bank.faults_of c.args.bank.now c.read_touched-read.new.bank m n 0 =
-    keeps-lost c.args.bank.now c.read_touched-read.new.bank shape m n r c.requires.stands (lost-of given shape m n r f0 f1 c.requires.stands.placed did.lost) did.given (grows-none did.tape)
+    keeps-lost c.args.bank.now c.read_touched-read.new.bank shape m n r c.requires.stands.placed c.requires.stands.unlost (lost-of given shape m n r f0 f1 c.requires.stands.placed did.lost) did.given (grows-none did.tape)
     (λ told. read-unused m given.start (g.B.Bank.tape c.args.bank.now) (g.B.Bank.tape c.read_touched-read.new.bank) (did.tape told)) in
     let raised = c.mark_dirty-spares.ensures in
     safe-on told world ledger read raised.keeps room

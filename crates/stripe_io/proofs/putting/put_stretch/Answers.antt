@@ -87,8 +87,14 @@ returns-clause-further g c none low = c.write_stretch-next.ensures.further (none
 pub returns-clause-clean : goal.returns-clause-clean
 returns-clause-clean g c = c.record_missing-spares.ensures.clean ∙ c.write_stretch-next.ensures.clean
 
-pub write_stretch-next-requires-clause-stands : goal.write_stretch-next-requires-clause-stands
-write_stretch-next-requires-clause-stands g c = c.requires.stands
+pub write_stretch-next-requires-clause-slots : goal.write_stretch-next-requires-clause-slots
+write_stretch-next-requires-clause-slots g c = c.requires.stands.slots
+
+pub write_stretch-next-requires-clause-placed : goal.write_stretch-next-requires-clause-placed
+write_stretch-next-requires-clause-placed g c = c.requires.stands.placed
+
+pub write_stretch-next-requires-clause-unlost : goal.write_stretch-next-requires-clause-unlost
+write_stretch-next-requires-clause-unlost g c = c.requires.stands.unlost
 
 pub record_missing-spares-requires : goal.record_missing-spares-requires
 record_missing-spares-requires g c = record { stands = stands-on c.write_stretch-next.ensures.keeps c.requires.stands }

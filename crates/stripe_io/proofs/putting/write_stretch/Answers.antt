@@ -24,7 +24,7 @@ use Rattle.sb_safe_updates.proofs.FrameLaws.{keeps-lost}
 use Rattle.stripe_io.proofs.putting.write_stretch.Goals as goal
 
 pub write_touched-written-requires-clause-rows : goal.write_touched-written-requires-clause-rows
-write_touched-written-requires-clause-rows g c = has-rows (g.B.Bank.given c.args.bank.now) c.args.members.now c.requires.stands.placed c.args.shape.now c.requires.shape
+write_touched-written-requires-clause-rows g c = has-rows (g.B.Bank.given c.args.bank.now) c.args.members.now c.requires.placed c.args.shape.now c.requires.shape
 
 pub returns-clause-refused : goal.returns-clause-refused
 returns-clause-refused g c =
@@ -58,7 +58,7 @@ returns-clause-kept g c = λ whole.
     let f1 = g.B.Bank.faults_of c.write_touched-written.new.bank in
     let r = c.write_touched-written.result.lost in
     let shape = c.args.shape.now in
-    let lost : AreLost given shape m n r f0 f1 = are_lost given shape m n r f0 f1 c.requires.stands.placed did.lost.members did.lost.failed did.lost.never_falls in
+    let lost : AreLost given shape m n r f0 f1 = are_lost given shape m n r f0 f1 c.requires.placed did.lost.members did.lost.failed did.lost.never_falls in
     lost.kept (lost-none given shape m n r f0 f1 lost c.requires.shape whole)
 
 pub returns-clause-safe : goal.returns-clause-safe
@@ -68,15 +68,15 @@ returns-clause-safe g c = λ told world ledger dirty region list list' w has all
     let tape0 = g.B.Bank.tape c.args.bank.now in
     let tape1 = g.B.Bank.tape c.write_touched-written.new.bank in
     safe-put (OpensFit world) world.scope given ledger c.args.members.now c.write_touched-written.new.members c.write_touched-written.result.lost c.args.shape.now list' c.args.rows.now tape0 tape1 told
-    did.lost.members c.requires.stands.placed dirty c.requires.stands.unlost region allowed zeros
+    did.lost.members c.requires.placed dirty c.requires.unlost region allowed zeros
     (did.each_mark list list' w has) safe
 
 pub refused_by-refusal-requires-clause-shape : goal.refused_by-refusal-requires-clause-shape
-refused_by-refusal-requires-clause-shape g c = force-valid c.args.members.now.newest c.requires.stands.placed.fit c.args.shape.now c.requires.shape
+refused_by-refusal-requires-clause-shape g c = force-valid c.args.members.now.newest c.requires.placed.fit c.args.shape.now c.requires.shape
 
 pub refused_by-refusal-requires-clause-roles : goal.refused_by-refusal-requires-clause-roles
 refused_by-refusal-requires-clause-roles g c =
-    roles-left (g.B.Bank.given c.args.bank.now) c.args.members.now c.write_touched-written.new.members c.write_touched-written.result.lost c.write_touched-written.ensures.lost.members c.requires.stands.placed c.args.shape.now c.requires.shape
+    roles-left (g.B.Bank.given c.args.bank.now) c.args.members.now c.write_touched-written.new.members c.write_touched-written.result.lost c.write_touched-written.ensures.lost.members c.requires.placed c.args.shape.now c.requires.shape
 
 pub write_touched-written-requires-clause-below : goal.write_touched-written-requires-clause-below
 write_touched-written-requires-clause-below g c = c.requires.below
@@ -91,10 +91,10 @@ pub write_touched-written-requires-clause-standing : goal.write_touched-written-
 write_touched-written-requires-clause-standing g c = c.requires.standing
 
 pub write_touched-written-requires-clause-behind : goal.write_touched-written-requires-clause-behind
-write_touched-written-requires-clause-behind g c = c.requires.stands.placed.behind
+write_touched-written-requires-clause-behind g c = c.requires.placed.behind
 
 pub write_touched-written-requires-clause-apart : goal.write_touched-written-requires-clause-apart
-write_touched-written-requires-clause-apart g c = c.requires.stands.placed.apart
+write_touched-written-requires-clause-apart g c = c.requires.placed.apart
 
 pub returns-clause-reached : goal.returns-clause-reached
 returns-clause-reached g c = c.write_touched-written.ensures.reached
@@ -122,9 +122,9 @@ returns-clause-keeps g c =
     let list = list-in shape c.args.rows.now c.args.buffer.now.items in
     let marks = did.each_mark list (list-with list c.args.first c.args.from.now) (list-with-is list c.args.first c.args.from.now)
     (λ told. list-in-is shape c.args.rows.now c.args.buffer.now.items c.args.start c.requires.once) in
-    keeps-lost c.args.bank.now c.write_touched-written.new.bank shape m n r c.requires.stands
-    (are_lost given shape m n r f0 f1 c.requires.stands.placed did.lost.members did.lost.failed did.lost.never_falls) did.given (grows-marks marks)
+    keeps-lost c.args.bank.now c.write_touched-written.new.bank shape m n r c.requires.placed c.requires.unlost
+    (are_lost given shape m n r f0 f1 c.requires.placed did.lost.members did.lost.failed did.lost.never_falls) did.given (grows-marks marks)
     (λ told s k v unused may. elim ((marks_last marks told).0 s k) [
       | inl same ↦ subst (λ (l : List Sector). IsIn l v) same may
-      | inr at ↦ absurd (unused-role given m c.requires.stands.placed s unused at.role at.held)
+      | inr at ↦ absurd (unused-role given m c.requires.placed s unused at.role at.held)
     ])

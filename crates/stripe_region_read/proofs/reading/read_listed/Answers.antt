@@ -36,7 +36,7 @@ returns-then-is_err-clause-keeps g c =
     let did = c.read_parts-read.ensures in
     let r = c.read_parts-read.result.lost in
     let read : Keeps g.B.Bank.tells g.B.Bank.given g.B.Bank.tape g.B.Bank.faults_of c.args.bank.now c.read_parts-read.new.bank m n 0 =
-    keeps-lost c.args.bank.now c.read_parts-read.new.bank c.args.shape.now m n r c.requires.stands
+    keeps-lost c.args.bank.now c.read_parts-read.new.bank c.args.shape.now m n r c.requires.stands.placed c.requires.stands.unlost
     (lost-of given c.args.shape.now m n r (g.B.Bank.faults_of c.args.bank.now) (g.B.Bank.faults_of c.read_parts-read.new.bank) c.requires.stands.placed did.lost) did.given (grows-none did.tape)
     (λ told. read-unused m given.start (g.B.Bank.tape c.args.bank.now) (g.B.Bank.tape c.read_parts-read.new.bank) (did.tape told)) in
     read
@@ -61,7 +61,7 @@ record_missing-spares-requires g c =
     let did = c.read_parts-read.ensures in
     let r = c.read_parts-read.result.lost in
     let read : Keeps g.B.Bank.tells g.B.Bank.given g.B.Bank.tape g.B.Bank.faults_of c.args.bank.now c.read_parts-read.new.bank m n 0 =
-    keeps-lost c.args.bank.now c.read_parts-read.new.bank c.args.shape.now m n r c.requires.stands
+    keeps-lost c.args.bank.now c.read_parts-read.new.bank c.args.shape.now m n r c.requires.stands.placed c.requires.stands.unlost
     (lost-of given c.args.shape.now m n r (g.B.Bank.faults_of c.args.bank.now) (g.B.Bank.faults_of c.read_parts-read.new.bank) c.requires.stands.placed did.lost) did.given (grows-none did.tape)
     (λ told. read-unused m given.start (g.B.Bank.tape c.args.bank.now) (g.B.Bank.tape c.read_parts-read.new.bank) (did.tape told)) in
     record { stands = stands-on read c.requires.stands }
@@ -74,7 +74,7 @@ returns-clause-keeps g c =
     let did = c.read_parts-read.ensures in
     let r = c.read_parts-read.result.lost in
     let read : Keeps g.B.Bank.tells g.B.Bank.given g.B.Bank.tape g.B.Bank.faults_of c.args.bank.now c.read_parts-read.new.bank m n 0 =
-    keeps-lost c.args.bank.now c.read_parts-read.new.bank c.args.shape.now m n r c.requires.stands
+    keeps-lost c.args.bank.now c.read_parts-read.new.bank c.args.shape.now m n r c.requires.stands.placed c.requires.stands.unlost
     (lost-of given c.args.shape.now m n r (g.B.Bank.faults_of c.args.bank.now) (g.B.Bank.faults_of c.read_parts-read.new.bank) c.requires.stands.placed did.lost) did.given (grows-none did.tape)
     (λ told. read-unused m given.start (g.B.Bank.tape c.args.bank.now) (g.B.Bank.tape c.read_parts-read.new.bank) (did.tape told)) in
     keeps-then read c.record_missing-spares.ensures.keeps (in-second c.record_missing-spares.result)
