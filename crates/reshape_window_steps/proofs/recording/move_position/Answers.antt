@@ -117,5 +117,5 @@ returns-clause-safe g c = λ told world ledger room gone unclean right safe.
 
 -- ---- what the searches would find too, for longer
 
-pub put_position-write_listed-requires-clause-stands : goal.put_position-write_listed-requires-clause-stands
-put_position-write_listed-requires-clause-stands g c = c.requires.stands
+pub put_position-put-requires-clause-stands : goal.put_position-put-requires-clause-stands
+put_position-put-requires-clause-stands g c = c.requires.stands
