@@ -14,7 +14,7 @@ use Rattle.sb_safe_updates.specs.crash_views_Views.{Ledger, IsTailZero}
 use Rattle.sb_safe_updates.specs.crash_views_Windows.{IsOfRegion}
 use Rattle.sb_safe_updates.specs.crash_safety_laws_Steady.{IsSafeOver, KeepsSafe, AreGoneTold, AreWritesAllowed}
 use Rattle.sb_safe_updates.proofs.array_members_SyncedParts.{IsInParts, ArePut}
-use Rattle.stripe_io.proofs.mending.mend.Given as goal
+use Rattle.stripe_io.proofs.mending.resync_rows.Given as goal
 
 abbrev pub decreases-loop-done : goal.decreases-loop-done
 decreases-loop-done g l = l.chunk - l.done
