@@ -97,7 +97,9 @@ module _ (roles : List Role) (gives : List Give) (lost role : ℕ) where
 
   pub state-found : (former : Role) (give : Give) (slot : ℕ) → former ≡ get_or roles role Missing → give ≡ give_of gives slot
       → Some slot ≡ least_below 32 (is_planned_holder roles gives lost role) → held_state former give slot ≡ planned_state roles gives lost role
+  unfolding state_by
   state-found former give slot was given first = (λ j. held_state (was j) (given j) slot) ∙ ap state_by first
 
   pub state-none : None ≡ least_below 32 (is_planned_holder roles gives lost role) → Missing ≡ planned_state roles gives lost role
+  unfolding state_by least_below
   state-none none = ap state_by none

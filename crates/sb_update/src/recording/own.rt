@@ -20,16 +20,20 @@ fn checksum_in(sectors: &[u8; 1024]) -> u32
     u32::from_le_bytes([sectors[216], sectors[217], sectors[218], sectors[219]])
 }
 
+// A superblock with another checksum.
+fn with_checksum(sb: &Sb, sb_csum: u32) -> Sb
+    ensures { result ≡ record sb.now { sb_csum = sb_csum } }
+{
+    Sb { sb_csum, ..*sb }
+}
+
 // A superblock with its checksum.
 fn stored(sb: &Sb) -> Sb
     requires { IsWritable sb.now }
     ensures { IsStored sb.now (Some result) }
 {
     let sectors = sectors_of(sb);
-    Sb {
-        sb_csum: checksum_in(&sectors),
-        ..*sb
-    }
+    with_checksum(sb, checksum_in(&sectors))
 }
 
 // Keeps a slot's superblock as it was stored.

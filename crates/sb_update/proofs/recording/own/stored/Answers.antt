@@ -1,4 +1,4 @@
-use Rattle.std.proofs.Common.{Some, sym, ap, ◌∙◌, arith}
+use Rattle.std.proofs.Common.{ℕ, Some, sym, ap, ◌∙◌, arith}
 use Rattle.sb_specs.specs.sb_codec_the_Sb.{Sb}
 use Rattle.sb_update.proofs.recording.own.stored.Goals as goal
 
@@ -11,5 +11,5 @@ returns c =
       small = c.checksum_in.ensures.bytes;
       valid = c.sectors_of-sectors.ensures.valid;
       fields = fields;
-      own = ap (λ (n : _). Some (record c.args.sb.now { sb_csum = n })) (c.checksum_in.ensures.checksum ∙ ap (λ (s : Sb). s.sb_csum) fields) ∙ sym (ap (λ (s : Sb). Some s) fields);
+      own = ap (λ (s : Sb). Some s) (c.with_checksum.ensures ∙ ap (λ (n : ℕ). record c.args.sb.now { sb_csum = n }) (c.checksum_in.ensures.checksum ∙ ap (λ (s : Sb). s.sb_csum) fields) ∙ sym fields);
     }

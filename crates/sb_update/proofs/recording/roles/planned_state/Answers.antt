@@ -1,5 +1,6 @@
 use Rattle.std.proofs.Common.{refl, sym, ◌∙◌}
 use Rattle.sb_specs.specs.Update.{give_of}
+use Rattle.sb_specs.specs.Outcome.{is_planned_holder}
 use Rattle.sb_update.proofs.RoleStates.{least_below-lt, state-found, state-none}
 use Rattle.sb_update.proofs.recording.roles.planned_state.Goals as goal
 
@@ -12,3 +13,8 @@ returns-in-Some c =
 
 pub returns-in-None : goal.returns-in-None
 returns-in-None c = let m = c.args.members.now in state-none m.roles c.args.gives.now m.lost c.args.role (sym c.in-None.is ∙ c.requires)
+
+pub bounds-gives-slot : goal.bounds-gives-slot
+bounds-gives-slot c =
+    let m = c.args.members.now in
+    least_below-lt 32 (is_planned_holder m.roles c.args.gives.now m.lost c.args.role) c.in-Some.slot (sym (sym c.in-Some.is ∙ c.requires))
