@@ -139,3 +139,21 @@ returns-clause-buffer g c = c.fill-filled.ensures.buffer
 
 pub fill-filled-requires-clause-stands : goal.fill-filled-requires-clause-stands
 fill-filled-requires-clause-stands g c = record { slots = c.requires.slots; placed = c.requires.placed; unlost = c.requires.unlost; free = c.requires.free }
+
+pub returns-clause-given : goal.returns-clause-given
+returns-clause-given g c = c.record_missing-others.ensures.keeps.bank.same ∙ c.fill-filled.ensures.keeps.bank.same
+
+pub returns-then-is_some-is_unassigned-clause-moved : goal.returns-then-is_some-is_unassigned-clause-moved
+returns-then-is_some-is_unassigned-clause-moved g c = c.fill-filled.ensures.keeps.moved
+
+pub returns-then-is_some-is_unassigned-clause-failed : goal.returns-then-is_some-is_unassigned-clause-failed
+returns-then-is_some-is_unassigned-clause-failed g c = c.fill-filled.ensures.keeps.failed
+
+pub returns-then-is_some-is_unassigned-clause-grows : goal.returns-then-is_some-is_unassigned-clause-grows
+returns-then-is_some-is_unassigned-clause-grows g c = c.fill-filled.ensures.keeps.bank.grows
+
+pub returns-then-is_some-is_unassigned-clause-rise : goal.returns-then-is_some-is_unassigned-clause-rise
+returns-then-is_some-is_unassigned-clause-rise g c = c.fill-filled.ensures.keeps.rise
+
+pub returns-then-is_some-is_unassigned-clause-given : goal.returns-then-is_some-is_unassigned-clause-given
+returns-then-is_some-is_unassigned-clause-given g c = c.fill-filled.ensures.keeps.bank.same

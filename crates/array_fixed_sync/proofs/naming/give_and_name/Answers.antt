@@ -82,3 +82,6 @@ returns-clause-counts g c = λ slot. le_trans (c.give_role-spares.ensures.bank.c
 
 pub give_role-spares-requires-clause-stands : goal.give_role-spares-requires-clause-stands
 give_role-spares-requires-clause-stands g c = record { slots = c.requires.slots; placed = c.requires.placed; unlost = c.requires.unlost; free = c.requires.free }
+
+pub returns-clause-given : goal.returns-clause-given
+returns-clause-given g c = c.record_missing-others.ensures.keeps.bank.same ∙ c.give_role-spares.ensures.bank.same

@@ -138,3 +138,6 @@ returns-clause-counts g c = λ slot. le_trans (c.flush_and_record-spares.ensures
 
 pub flush_and_record-spares-requires-clause-stands : goal.flush_and_record-spares-requires-clause-stands
 flush_and_record-spares-requires-clause-stands g c = record { slots = c.requires.slots; placed = c.requires.placed; unlost = c.requires.unlost; free = c.requires.free }
+
+pub returns-clause-given : goal.returns-clause-given
+returns-clause-given g c = c.record_missing-others.ensures.keeps.bank.same ∙ c.flush_and_record-spares.ensures.bank.same

@@ -72,3 +72,12 @@ returns-clause-bank g c = c.copy-done.ensures.keeps.bank
 
 pub copy-done-requires-clause-stands : goal.copy-done-requires-clause-stands
 copy-done-requires-clause-stands g c = c.requires.stands
+
+pub returns-clause-moved : goal.returns-clause-moved
+returns-clause-moved g c = c.copy-done.ensures.keeps.moved
+
+pub returns-clause-rise : goal.returns-clause-rise
+returns-clause-rise g c = c.copy-done.ensures.keeps.rise
+
+pub returns-clause-unused : goal.returns-clause-unused
+returns-clause-unused g c = c.copy-done.ensures.keeps.unused

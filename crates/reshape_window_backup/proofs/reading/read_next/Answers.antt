@@ -76,3 +76,12 @@ returns-clause-bank g c = c.read_list-read.ensures.keeps.bank
 
 pub read_list-read-requires-clause-stands : goal.read_list-read-requires-clause-stands
 read_list-read-requires-clause-stands g c = c.requires.stands
+
+pub returns-clause-moved : goal.returns-clause-moved
+returns-clause-moved g c = c.read_list-read.ensures.keeps.moved
+
+pub returns-clause-rise : goal.returns-clause-rise
+returns-clause-rise g c = c.read_list-read.ensures.keeps.rise
+
+pub returns-clause-unused : goal.returns-clause-unused
+returns-clause-unused g c = c.read_list-read.ensures.keeps.unused

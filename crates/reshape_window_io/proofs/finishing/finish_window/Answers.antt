@@ -283,3 +283,12 @@ returns-then-is_some-clause-bank g c = c.copy_rest-copied.ensures.keeps.bank
 
 pub copy_rest-copied-requires-clause-stands : goal.copy_rest-copied-requires-clause-stands
 copy_rest-copied-requires-clause-stands g c = c.requires.stands
+
+pub returns-then-is_some-clause-failed : goal.returns-then-is_some-clause-failed
+returns-then-is_some-clause-failed g c = c.copy_rest-copied.ensures.keeps.failed
+
+pub returns-then-is_some-clause-unused : goal.returns-then-is_some-clause-unused
+returns-then-is_some-clause-unused g c = c.copy_rest-copied.ensures.keeps.unused
+
+pub returns-then-is_some-clause-rise : goal.returns-then-is_some-clause-rise
+returns-then-is_some-clause-rise g c = c.copy_rest-copied.ensures.keeps.rise

@@ -209,3 +209,9 @@ returns-then-is_some-clause-bank g c = c.flush_naming-flushed.ensures.keeps.bank
 
 pub flush_naming-flushed-requires : goal.flush_naming-flushed-requires
 flush_naming-flushed-requires g c = record { stands = c.requires.stands }
+
+pub returns-then-is_some-clause-failed : goal.returns-then-is_some-clause-failed
+returns-then-is_some-clause-failed g c = c.flush_naming-flushed.ensures.keeps.failed
+
+pub returns-then-is_some-clause-rise : goal.returns-then-is_some-clause-rise
+returns-then-is_some-clause-rise g c = c.flush_naming-flushed.ensures.keeps.rise
