@@ -30,7 +30,7 @@ use Rattle.run_blocks.specs.run_specs_the_State_TheVariants.{Idle, Running}
 use Rattle.run_blocks.specs.run_specs_Histories.{History, history_of, histories_of, entry_at, is_end}
 use Rattle.run_blocks.specs.run_specs_Making.{Setting}
 use Rattle.run_blocks.specs.run_specs_Replies.{Course, at_rest, gone_on, calls_behind, course_behind, entries_to, course_after, course_of, IsAnswer, IsAnswerBeside, AreReplies}
-use Rattle.run_blocks.specs.run_specs_States.{running_history, histories_in, entries_in, course_in, IsGrown, AreGrown, IsTurn, IsBeside, AreAnswersBeside}
+use Rattle.run_blocks.specs.run_specs_States.{running_history, histories_in, course_in, IsGrown, AreGrown, IsTurn, IsBeside, AreAnswersBeside}
 use Rattle.run_blocks.proofs.run_specs_Growth.{history_stays, grown_then, course_stays, courses_stay, answer_in_named, beside_after}
 use Rattle.run_blocks.proofs.run_line_answers_Turns.{get_last}
 use Rattle.run_session.specs.declared.sessions.Stop.{Stop}
@@ -38,7 +38,7 @@ use Rattle.run_session.specs.declared.sessions.Stop.TheVariants.{WriteFault, NoM
 use Rattle.run_session.specs.declared.sessions.Session.{Session}
 use Rattle.run_session.specs.Sessions.{AreMadeOf, IsStep, IsLineStep, IsBlockStep, IsTurnStep}
 use Rattle.run_session.proofs.BlockReplies.{made-few, block-lanes}
-use Rattle.run_session.specs.Alerting.{alerts_in, told_behind, AreAllTold, AreAllToldBy, AreAlertsTold, watched_by, IsWatching, AreToldNow, IsScanned, IsFirstScanned, IsTurnScanned}
+use Rattle.run_session.specs.Alerting.{entries_in, alerts_in, told_behind, AreAllTold, AreAllToldBy, AreAlertsTold, watched_by, IsWatching, AreToldNow, IsScanned, IsFirstScanned, IsTurnScanned}
 
 -- ---- the array that runs goes on
 

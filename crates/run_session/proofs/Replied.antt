@@ -21,10 +21,10 @@ use Rattle.run_blocks.specs.script_Script.{is_within_limits}
 use Rattle.run_blocks.specs.script_the_Numbered.{Numbered}
 use Rattle.run_blocks.specs.run_specs_the_LineReply.{LineReply}
 use Rattle.run_session.specs.Sessions.{IsEndNow, IsReplied}
-use Rattle.run_blocks.specs.run_specs_States.{histories_in, entries_in, course_in, IsNamed, IsTurn, IsTurnOrNone}
+use Rattle.run_blocks.specs.run_specs_States.{histories_in, course_in, IsNamed, IsTurn, IsTurnOrNone}
 use Rattle.run_blocks.specs.run_specs_Written.{HasWritten, IsWritten, IsWrittenBy}
 use Rattle.run_blocks.specs.Shown.{longest_reply, more_room, IsAnswerShort, is_refusal}
-use Rattle.run_session.specs.Alerting.{alerts_in, AreToldNow, IsScanned}
+use Rattle.run_session.specs.Alerting.{entries_in, alerts_in, AreToldNow, IsScanned}
 use Rattle.run_blocks.proofs.run_specs_Growth.{answer_named}
 use Rattle.run_blocks.proofs.Shortness.{answer_short}
 

@@ -21,8 +21,13 @@ use Rattle.run_blocks.specs.run_specs_the_State_TheVariants.{Idle, Running}
 use Rattle.run_blocks.specs.run_specs_Blocks.{caller_of}
 use Rattle.run_blocks.specs.run_specs_Histories.{History}
 use Rattle.run_blocks.specs.run_specs_Replies.{Course, course_after}
-use Rattle.run_blocks.specs.run_specs_States.{entries_in, IsGrown}
+use Rattle.run_blocks.specs.run_specs_States.{IsGrown}
 use Rattle.run_session.specs.Sessions.{IsBlock}
+
+-- the entries of the array that runs
+abbrev pub entries_in : {B : Type 0} → State B → List Entry
+entries_in (Idle bank epochs) = []
+entries_in (Running array epochs) = array.parts.entries
 
 -- ---- the theorem
 

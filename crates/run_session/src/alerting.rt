@@ -10,10 +10,10 @@ ghost use Rattle.run_blocks.specs.history_monitor_Told.{AreTold, HasScanned};
 ghost use Rattle.run_blocks.specs.history_monitor_Urgent.{WantsUrgent};
 ghost use Rattle.run_blocks.specs.run_specs_Ended.{IsRunKept};
 ghost use Rattle.run_blocks.specs.run_specs_Making.{setting_of};
-ghost use Rattle.run_blocks.specs.run_specs_States.{histories_in, bank_in, entries_in, course_in, RunsOwn, IsFitBank, IsTurnOrNone};
+ghost use Rattle.run_blocks.specs.run_specs_States.{histories_in, bank_in, course_in, RunsOwn, IsFitBank, IsTurnOrNone};
 ghost use Rattle.run_blocks.specs.run_specs_Written.{IsWrittenBy};
 ghost use Rattle.run_blocks.specs.script_Script.{is_within_limits};
-ghost use Rattle.run_session.specs.Alerting.{asks_alerts, AreToldBy, AreToldNow, IsScanned, watched_by};
+ghost use Rattle.run_session.specs.Alerting.{entries_in, asks_alerts, AreToldBy, AreToldNow, IsScanned, watched_by};
 
 use crate::sessions::LONGEST_REPLY;
 use run_blocks::{

@@ -8,11 +8,11 @@ ghost use Rattle.run_blocks.specs.script_Script.{is_within_limits, may_ask, are_
 ghost use Rattle.run_blocks.specs.lane_shared_Pace.{AnswersSteps, asked_by};
 ghost use Rattle.run_blocks.specs.Shown.{longest_reply};
 ghost use Rattle.run_blocks.specs.run_specs_Records.{IsRecordStored};
-ghost use Rattle.run_blocks.specs.run_specs_States.{histories_in, bank_in, entries_in, record_in, RunsOwn, IsFitBank, IsNamed};
+ghost use Rattle.run_blocks.specs.run_specs_States.{histories_in, bank_in, record_in, RunsOwn, IsFitBank, IsNamed};
 ghost use Rattle.run_blocks.specs.history_monitor_Hooks.{wanted_by};
 ghost use Rattle.run_blocks.specs.history_monitor_Told.{HasScanned};
 ghost use Rattle.run_blocks.specs.history_monitor_Urgent.{WantsUrgent};
-ghost use Rattle.run_session.specs.Alerting.{AreAlertsTold, IsScanned, IsFirstScanned, IsTurnScanned};
+ghost use Rattle.run_session.specs.Alerting.{entries_in, AreAlertsTold, IsScanned, IsFirstScanned, IsTurnScanned};
 ghost use Rattle.run_session.specs.Sessions.{IsEndNow, IsRepliedOrNot, IsStep, IsTurnStep, IsStopCause, IsPerformed, IsShownTo};
 ghost use Rattle.run_blocks.specs.run_specs_Ended.{IsRunKept};
 ghost use Rattle.run_blocks.specs.run_specs_Making.{setting_of};

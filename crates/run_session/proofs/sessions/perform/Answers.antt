@@ -9,13 +9,13 @@ use Rattle.run_blocks.specs.script_the_Lane_TheVariants.{Script as InScript}
 use Rattle.run_blocks.specs.run_specs_Ended.{IsRunKept}
 use Rattle.run_blocks.specs.run_specs_Making.{setting_of}
 use Rattle.run_blocks.specs.run_specs_Records.{IsRecordStored}
-use Rattle.run_blocks.specs.run_specs_States.{histories_in, bank_in, entries_in, course_in, record_in}
+use Rattle.run_blocks.specs.run_specs_States.{histories_in, bank_in, course_in, record_in}
 use Rattle.run_blocks.specs.history_monitor_Hooks.{wanted_by}
 use Rattle.run_blocks.specs.history_monitor_the_Past.{Past}
 use Rattle.run_blocks.specs.run_specs_Replies.{at_rest, course_of}
 use Rattle.run_session.specs.declared.sessions.Stop.{Stop}
 use Rattle.run_session.specs.Sessions.{IsCourse, IsTurnStep}
-use Rattle.run_session.specs.Alerting.{AreAlertsTold, IsWatching, IsTurnScanned}
+use Rattle.run_session.specs.Alerting.{entries_in, AreAlertsTold, IsWatching, IsTurnScanned}
 use Rattle.run_session.proofs.Alerted.{told_of, watching-none, turn_so}
 use Rattle.run_blocks.specs.run_specs_the_LineReply.{LineReply}
 use Rattle.run_session.specs.declared.sessions.Session.{Session}

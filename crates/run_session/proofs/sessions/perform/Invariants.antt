@@ -10,8 +10,8 @@ use Rattle.run_blocks.specs.run_specs_Making.{setting_of}
 use Rattle.run_blocks.specs.Shown.{longest_reply}
 use Rattle.run_blocks.specs.history_monitor_Hooks.{wanted_by}
 use Rattle.run_blocks.specs.run_specs_Replies.{at_rest}
-use Rattle.run_blocks.specs.run_specs_States.{histories_in, bank_in, entries_in}
-use Rattle.run_session.specs.Alerting.{AreAlertsTold, IsWatching}
+use Rattle.run_blocks.specs.run_specs_States.{histories_in, bank_in}
+use Rattle.run_session.specs.Alerting.{entries_in, AreAlertsTold, IsWatching}
 use Rattle.run_session.proofs.Alerted.{told_of}
 use Rattle.run_session.specs.Sessions.{IsPerformed, IsShownTo}
 use Rattle.run_session.proofs.sessions.perform.Given as goal

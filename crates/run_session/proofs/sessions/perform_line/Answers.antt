@@ -4,7 +4,7 @@ use Rattle.run_blocks.specs.run_specs_the_LineReply.{LineReply}
 use Rattle.run_session.specs.declared.sessions.Made.{Made}
 use Rattle.run_blocks.specs.Shown.{reply_text}
 use Rattle.run_blocks.specs.run_specs_Making.{setting_of}
-use Rattle.run_blocks.specs.run_specs_States.{histories_in, bank_in, entries_in, course_in}
+use Rattle.run_blocks.specs.run_specs_States.{histories_in, bank_in, course_in}
 use Rattle.run_session.specs.Sessions.{counted, IsRepliedOrNot}
 use Rattle.run_blocks.proofs.run_specs_Causes.{grows-none}
 use Rattle.run_blocks.proofs.run_specs_Losses.{losses-kept}
@@ -13,7 +13,7 @@ use Rattle.run_blocks.specs.run_specs_Written.{MayWrite}
 use Rattle.run_blocks.proofs.run_requests_Writing.{written-nothing}
 use Rattle.std.specs.Prelude.{IfOk}
 use Rattle.run_blocks.specs.history_monitor_Hooks.{wanted_by}
-use Rattle.run_session.specs.Alerting.{IsScanned}
+use Rattle.run_session.specs.Alerting.{entries_in, IsScanned}
 use Rattle.run_session.proofs.Alerted.{first-scanned, nothing-scanned}
 use Rattle.run_session.proofs.sessions.perform_line.Goals as goal
 

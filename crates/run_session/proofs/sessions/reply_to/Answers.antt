@@ -2,11 +2,11 @@ use Rattle.std.proofs.Common.{◌+◌, ◌≤◌, Result, sym, subst, arith, vec
 use Rattle.std.specs.Prelude.{IfOk}
 use Rattle.run_blocks.specs.raid_types_the_NoMemory.{NoMemory}
 use Rattle.run_blocks.specs.history_monitor_Hooks.{wanted_by}
-use Rattle.run_session.specs.Alerting.{IsScanned}
+use Rattle.run_session.specs.Alerting.{entries_in, IsScanned}
 use Rattle.run_blocks.specs.run_specs_the_Answered.{Answered}
 use Rattle.run_blocks.specs.run_specs_Making.{setting_of}
 use Rattle.run_blocks.specs.Shown.{longest_reply, more_room, IsAnswerShort}
-use Rattle.run_blocks.specs.run_specs_States.{histories_in, bank_in, entries_in, IsNamed}
+use Rattle.run_blocks.specs.run_specs_States.{histories_in, bank_in, IsNamed}
 use Rattle.run_session.proofs.Replied.{turn_named, turn_short, turn_replied}
 use Rattle.run_session.proofs.sessions.reply_to.Goals as goal
 
