@@ -1,6 +1,6 @@
 //! Lines as people get them wrong, and what they are told.
 
-use script_mistakes::{Reason, diagnose_line, diagnose_script, push_marked, told};
+use script_mistakes::{Reason, diagnose_line, diagnose_script, message_of, push_marked};
 use std::alloc::Global;
 use std::process::Abort;
 use std::test::Fail;
@@ -16,7 +16,7 @@ fn assert_told(
     let diagnosis = diagnose_line(inside, line).ok_or("a good line")?;
     assert_eq!(rt; diagnosis.column, place.0);
     assert_eq!(rt; diagnosis.width, place.1);
-    let words = told(alloc, line, &diagnosis)?;
+    let words = message_of(alloc, line, &diagnosis)?;
     assert_eq!(rt; words.as_str(), text);
     Ok(())
 }
