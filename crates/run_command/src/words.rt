@@ -10,7 +10,8 @@ ghost use Rattle.run_scripts.specs.history_monitor_Hooks.{wanted_by};
 ghost use Rattle.run_scripts.specs.history_monitor_Urgent.{WantsUrgent};
 ghost use Rattle.run_scripts.specs.lane_shared_Pace.{AnswersSteps, asked_by};
 ghost use Rattle.run_scripts.specs.run_specs_Ended.{AreLegal, AreRight};
-ghost use Rattle.run_scripts.specs.Complete.{NoneFailed, HasNotFailed, AreUnfailed, EndsWell};
+ghost use Rattle.run_scripts.specs.Complete.{HasNotFailed, IsComplete, EndsWell};
+ghost use Rattle.run_scripts.specs.Done.{NoneFailed, AreUnfailed};
 ghost use Rattle.run_scripts.specs.Kept.{AreKept};
 ghost use Rattle.run_scripts.specs.run_specs_Making.{setting_of};
 ghost use Rattle.run_scripts.specs.Runs.{IsAfterLines, IsBeforeLines, IsNothing, sunk_of, IsScriptPerformed, IsScriptBad, AreLossesFailed, AreEndedAt};
@@ -106,8 +107,9 @@ pub fn run<
     ensures ended { B.tells → AreEndedAt (length (B.tape result.bank)) result.epochs.items }
     ensures losses { AreLossesFailed (setting_of B.tells (B.given bank) (B.tape bank) (B.tape result.bank) (backup_in (map string_bytes words.now)) (B.faults_of bank) (B.faults_of result.bank)) result.epochs.items }
     ensures ends_well { IsSome (command_in (map string_bytes words.now)) → HasNotFailed (S.faults_of script.old) (S.faults_of script.new) → HasNotFailed (K.faults_of out.old) (K.faults_of out.new)
-        → EndsWell (demo_in (map string_bytes words.now)) S.tells (S.left script.old) (S.left script.new) result.status }
+        → EndsWell (demo_in (map string_bytes words.now)) S.tells (S.left script.old) (S.left script.new) result.status result.epochs.items result.lines.items }
     ensures unfailed { NoneFailed (B.faults_of bank) (B.faults_of result.bank) → AreUnfailed result.epochs.items }
+    ensures complete { IsComplete (setting_of B.tells (B.given bank) (B.tape bank) (B.tape result.bank) (backup_in (map string_bytes words.now)) (B.faults_of bank) (B.faults_of result.bank)) result.epochs.items result.lines.items }
     ensures never_falls { NeverFalls (B.faults_of bank) (B.faults_of result.bank) }
     ensures grows { Grows B.tells (B.tape bank) (B.tape result.bank) }
     ensures source_never_falls { S.faults_of script.old ≤ S.faults_of script.new }

@@ -2,8 +2,9 @@
 use Rattle.std.proofs.Common.{◌≡◌, ℕ, ◌+◌, ◌-◌, ◌≤◌, ◌⊎◌, inl, inr, Bool, true, false, Option, Some, None, List, [], ◌∷◌, ◌++◌, length, take, drop, refl, sym, ◌∙◌, ap, subst, arith, append-nil, length-append}
 use Rattle.std.specs.Prelude.{MatchOption, slice_get, unwrap_or}
 use Rattle.std.specs.Global.{Vec}
+use Rattle.std.specs.List.{AllPass}
 use Rattle.std.proofs.lemmas.List.{length-map}
-use Rattle.std.proofs.lemmas.List.Elements.{All-nil, All-cons}
+use Rattle.std.proofs.lemmas.List.Elements.{All-nil, All-cons, All-take}
 use Rattle.history_reopen_laws.specs.bank_Given.{Given, NeverFalls}
 use Rattle.history_reopen_laws.specs.history_the_Entry.{Entry}
 use Rattle.history_reopen_laws.specs.history_the_Epoch.{Epoch}
@@ -13,6 +14,7 @@ use Rattle.history_reopen_laws.specs.raid_types_the_Who.{Who}
 use Rattle.run_session.specs.array_call_specs_Calls.{IsEntered, IsLossBy, AreLossesBy}
 use Rattle.run_session.specs.array_specs_Parts.{RunningParts}
 use Rattle.run_session.specs.sb_specs_Reading.{list_length}
+use Rattle.script_demo.specs.script_Script.{may_ask}
 use Rattle.script_demo.specs.script_the_Line_TheVariants.{Wait, Halt}
 use Rattle.script_demo.specs.script_the_Numbered.{Numbered}
 use Rattle.script_demo.specs.script_the_Lane.{Lane}
@@ -25,12 +27,12 @@ use Rattle.run_session.specs.run_specs_Asked.{script_who, IsAskedAt}
 use Rattle.run_session.specs.run_specs_Histories.{History, history_of, histories_of, is_end}
 use Rattle.run_session.specs.run_specs_Making.{Setting, setting_of}
 use Rattle.history_reopen_laws.specs.bank_the_Operation.{Operation}
-use Rattle.run_session.specs.run_specs_Replies.{Course, at_rest, course_of, AreCallsTold}
+use Rattle.run_session.specs.run_specs_Replies.{Course, at_rest, course_of, AreCallsTold, AreReplies}
 use Rattle.run_scripts.specs.Runs.{status_for, stop_of, IsHalted, AreLinesPerformed, AreLossesFailed, IsEnded}
 use Rattle.run_session.specs.Sessions.{counted, IsCourse, IsCutBehind, IsInBlock, taken_whole, IsTaken, IsPerformed, IsShownTo}
 use Rattle.run_session.specs.run_blocks_Shown.{report_text, has_refusal}
 use Rattle.run_session.specs.run_specs_States.{running_history, histories_in, course_in, RunsOwn, AreLossesBehind, AreLossesFrom, IsWaitCut, IsAmidBlock, IsPastMemory}
-use Rattle.run_session.specs.run_specs_Ended.{AreRising}
+use Rattle.run_session.specs.run_specs_Ended.{AreLegal, AreRising}
 use Rattle.run_session.specs.Writes.{AreWritesPlaced}
 use Rattle.run_session.specs.run_specs_Written.{IsWritten}
 use Rattle.run_session.specs.array_members_Moving.{Grows}
@@ -43,6 +45,7 @@ use Rattle.run_session.proofs.run_requests_RecordLaws.{records-stay}
 use Rattle.run_session.proofs.run_blocks_ShownLaws.{shown_stays}
 use Rattle.run_session.proofs.run_specs_Turned.{asked-tellable, halt-told}
 use Rattle.run_session.proofs.run_specs_Losses.{losses-halted, losses-whole, losses-kept, losses-last, losses_add}
+use Rattle.run_scripts.proofs.Done.{runs-done}
 use Rattle.run_session.proofs.run_line_answers_Turns.{now_are, turn_ended, grown_kept, get_last}
 
 last-snoc : (xs : List Entry) (e : Entry) → last_of (xs ++ e ∷ []) ≡ Some e
@@ -177,14 +180,26 @@ module _ {B bank_tells : Type 0} {given : Given} {backup : Option ℕ} {tape : L
       subst (λ (o : Option Stop). AreWritesPlaced (setting_of bank_tells given first_tape tape backup start now) (histories_of epochs) o (course_in session.state).running lines session.replies.items) (sym is_stop)
       (placed-end (setting_of bank_tells given first_tape tape backup start now) (setting_of bank_tells given tape tape backup now now) (histories_in session.state) (histories_of epochs) session.stopped (course_in session.state).running lines session.replies.items longer written (performed.written t))
 
+  end_setting : IsWider (setting_of bank_tells given tape tape backup now now) (setting_of bank_tells given first_tape tape backup start now)
+  end_setting = record { told = λ t. t; given = refl; backup = refl; grows = record { more = λ t. ([], sym (append-nil tape)) }; early = falls; between = λ s. omega arith; late = λ s. omega arith }
+
+  pub end_losses : AreLossesFailed (setting_of bank_tells given first_tape tape backup start now) epochs
+  end_losses = whole_losses (setting_of bank_tells given first_tape tape backup start now) epochs
+      (losses_add (setting_of bank_tells given first_tape tape backup start now) (setting_of bank_tells given tape tape backup now now) (setting_of bank_tells given first_tape tape backup start now) same_setting end_setting (histories_in session.state) (histories_of epochs) ended.grown
+      performed.losses ended.losses)
+
+  end_replies : AreReplies (setting_of bank_tells given first_tape tape backup start now) (histories_of epochs) (at_rest 0) (take (length session.replies.items) lines) session.replies.items
+  end_replies = replies_stay (setting_of bank_tells given first_tape tape backup start now) (setting_of bank_tells given first_tape tape backup start now) same_setting (histories_in session.state) (histories_of epochs) (at_rest 0) (take (length session.replies.items) lines) session.replies.items
+      ended.grown performed.replies
+
   pub end_performed : (session.stopped ≡ None → length session.replies.items ≡ length lines) → Grows bank_tells first_tape tape
       → (bank_tells → IsWritten (setting_of bank_tells given tape tape backup now now) (histories_in session.state) (histories_of epochs) (λ slot. ⊥)) → (bank_tells → AreRising (length tape) (histories_of epochs))
+      → (bank_tells → AreLegal given tape backup epochs) → AllPass (λ numbered. may_ask numbered.lane numbered.line) lines
       → AreLinesPerformed (setting_of bank_tells given first_tape tape backup start now) lines (stop_of status) epochs session.replies.items
-  end_performed all grows written rising = record {
+  end_performed all grows written rising legal may = record {
     few = performed.few;
     all = λ going. all (sym is_stop ∙ going);
-    replies = replies_stay (setting_of bank_tells given first_tape tape backup start now) (setting_of bank_tells given first_tape tape backup start now) same_setting (histories_in session.state) (histories_of epochs) (at_rest 0) (take (length session.replies.items) lines) session.replies.items
-        ended.grown performed.replies;
+    replies = end_replies;
     last = performed.last;
     recorded = records-stay (setting_of bank_tells given first_tape tape backup start now) (setting_of bank_tells given first_tape tape backup start now) same_setting (histories_in session.state) (histories_of epochs) ended.grown (at_rest 0) None (take (length session.replies.items) lines)
         session.replies.items performed.last performed.replies performed.recorded;
@@ -195,15 +210,9 @@ module _ {B bank_tells : Type 0} {given : Given} {backup : Option ℕ} {tape : L
     ends = performed.ends;
     written = λ t. end_written t (grows-longer grows t) (written t);
     quiet = λ t. quiet-between (setting_of bank_tells given first_tape tape backup start now) (stop_of status) (course_in session.state).running lines session.replies.items (length tape) epochs (rising t) (end_written t (grows-longer grows t) (written t));
+    done = λ t none. runs-done (setting_of bank_tells given first_tape tape backup start now) epochs none (legal t) end_losses (at_rest 0) (take (length session.replies.items) lines) session.replies.items
+        (All-take (λ numbered. may_ask numbered.lane numbered.line ≡ true) (length session.replies.items) lines may) (end_replies);
   }
-
-  end_setting : IsWider (setting_of bank_tells given tape tape backup now now) (setting_of bank_tells given first_tape tape backup start now)
-  end_setting = record { told = λ t. t; given = refl; backup = refl; grows = record { more = λ t. ([], sym (append-nil tape)) }; early = falls; between = λ s. omega arith; late = λ s. omega arith }
-
-  pub end_losses : AreLossesFailed (setting_of bank_tells given first_tape tape backup start now) epochs
-  end_losses = whole_losses (setting_of bank_tells given first_tape tape backup start now) epochs
-      (losses_add (setting_of bank_tells given first_tape tape backup start now) (setting_of bank_tells given tape tape backup now now) (setting_of bank_tells given first_tape tape backup start now) same_setting end_setting (histories_in session.state) (histories_of epochs) ended.grown
-      performed.losses ended.losses)
 
   module _ {K : Type 0} {old new : List ℕ} {old_faults new_faults : ℕ} (shown : IsShownTo K lines session old new old_faults new_faults) where
     pub end_taken : K → IsTaken (stop_of status) old new (length (report_text (histories_of epochs) lines (taken_whole (stop_of status) session.replies.items))) (report_text (histories_of epochs) lines session.replies.items)

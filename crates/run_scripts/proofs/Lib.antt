@@ -1,6 +1,7 @@
 pub mod Texts
 pub mod Reopening
 pub mod NothingDone
+pub mod Done
 pub mod Unfailed
 pub mod Marks
 pub mod Ends

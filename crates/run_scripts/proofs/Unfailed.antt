@@ -1,57 +1,35 @@
-use Rattle.std.proofs.Common.{◌≡◌, ◌≢◌, ℕ, ◌≤◌, ◌<◌, true, List, [], ◌∷◌, ◌++◌, Option, None, Some, MatchOption, IfSome, IsOk, Result, Ok, Err, inl, inr, ◌⊎◌, sym, ◌∙◌, ap, subst, arith}
-use Rattle.std.specs.List.{All}
+-- Runs in which nothing failed.
+use Rattle.std.proofs.Common.{◌≡◌, ◌≢◌, ℕ, zero, suc, ◌≤◌, ◌<◌, true, false, Bool, ◌||◌, List, [], ◌∷◌, ◌++◌, Option, None, Some, IfSome, IsOk, Result, Ok, Err, inl, inr, ◌⊎◌, sym, ◌∙◌, ap, subst, refl, length, take, arith}
+use Rattle.std.specs.List.{All, list_any}
+use Rattle.std.specs.Option.{option_map_or}
 use Rattle.std.proofs.lemmas.Bool.{cases_lt}
 use Rattle.std.proofs.lemmas.List.{append_cancel_right}
-use Rattle.std.proofs.lemmas.List.Elements.{All-nil, All-cons, All-head, All-tail}
-use Rattle.history_reopen_laws.specs.bank_Given.{IsFaulted}
-use Rattle.run_session.specs.script_io_Causes.{HasRisen}
+use Rattle.std.proofs.lemmas.List.Elements.{All-nil}
+use Rattle.run_session.specs.history_monitor_the_AlertKind.{AlertKind}
 use Rattle.script_demo.specs.script_Script.{script_with}
-use Rattle.history_reopen_laws.specs.raid_types_the_Refusal.{Refusal}
-use Rattle.history_reopen_laws.specs.raid_types_the_Refusal_TheVariants.{BackupFault, SlotFault}
+use Rattle.script_demo.specs.script_the_Line.{Line}
+use Rattle.script_demo.specs.script_the_Line_TheVariants.{Wait}
+use Rattle.script_demo.specs.script_the_Numbered.{Numbered}
+use Rattle.history_reopen_laws.specs.raid_types_the_Refusal_TheVariants.{Nothing}
 use Rattle.history_reopen_laws.specs.history_the_Entry.{Entry}
 use Rattle.history_reopen_laws.specs.history_the_Epoch.{Epoch}
 use Rattle.history_reopen_laws.specs.history_the_Event.{Event}
-use Rattle.history_reopen_laws.specs.history_the_Event_TheVariants.{Lost, SpareLost, Stepped, Refused}
-use Rattle.history_reopen_laws.specs.history_the_LostCause_TheVariants.{Fault}
-use Rattle.run_session.specs.run_specs_Histories.{History, history_of}
+use Rattle.history_reopen_laws.specs.history_the_Event_TheVariants.{Stepped, Refused}
+use Rattle.run_session.specs.run_specs_the_LineReply.{LineReply}
+use Rattle.run_session.specs.run_specs_Ended.{AreLegal}
+use Rattle.run_session.specs.run_specs_Histories.{History, histories_of, entry_at}
 use Rattle.run_session.specs.run_specs_Making.{Setting}
-use Rattle.run_session.specs.run_specs_States.{IsRefusalSince, IsLossSince, AreLossesBehind, with_entries}
-use Rattle.run_scripts.specs.Complete.{NoneFailed, HasNotFailed, IsForNoFailure, TellsNoFailure, AreUnfailed, EndsWell}
-use Rattle.run_scripts.specs.Runs.{AreLossesFailed, IsScriptBad}
+use Rattle.run_session.specs.run_specs_Replies.{at_rest}
+use Rattle.run_session.specs.run_blocks_Shown.{tells_refusal, is_refusal, has_refusal}
+use Rattle.run_session.specs.run_specs_the_Answered.{Answered}
+use Rattle.run_session.specs.run_specs_the_Answered_TheVariants.{Inside, Outside as IsOutside}
+use Rattle.run_session.specs.run_specs_the_Outside_TheVariants.{Refused as WasRefused}
+use Rattle.array_whole_laws.specs.history_whole_laws_Unfailed.{TellsNoFailure}
+use Rattle.run_scripts.specs.Done.{NoneFailed, AreUnfailed, IsAnswerUnfailed, IsWholeEpoch}
+use Rattle.run_scripts.proofs.Done.{replies-unfailed, epochs-whole}
+use Rattle.run_scripts.specs.Complete.{IsComplete, is_refused, is_refused_answer}
+use Rattle.run_scripts.specs.Runs.{AreLossesFailed, IsAfterLines, IsBeforeLines, IsNothing, IsScriptBad, IsScriptPerformed, Sunk}
 use Rattle.run_scripts.specs.Source.{longest_text, IsTextFor}
-
--- Where no device failed, no entry tells that one did: each such entry has a slot that failed as its cause.
-module _ (setting : Setting) (none : NoneFailed setting.before setting.now) where
-  unfailed-refusal : (refusal : Refusal) → IsRefusalSince setting refusal → IsForNoFailure refusal
-  unfailed-refusal (SlotFault slot) why = absurd (none slot why)
-  unfailed-refusal BackupFault why = by setting.backup why
-    where
-      by : (backup : Option ℕ) → MatchOption backup ⊥ (λ slot. IsFaulted slot setting.before setting.now) → ⊥
-      by None why = why
-      by (Some slot) why = none slot why
-  unfailed-refusal refusal why = tt
-
-  unfailed-event : (history : History) (event : Event) → IsLossSince setting history event → TellsNoFailure event
-  unfailed-event history (Lost role Fault) why = none why.0 why.1
-  unfailed-event history (SpareLost slot) why = none slot why.0
-  unfailed-event history (Stepped done left ended) why = by ended why
-    where
-      by : (ended : Option Refusal) → IfSome ended (IsRefusalSince setting) → IfSome ended IsForNoFailure
-      by None why = tt
-      by (Some refusal) why = unfailed-refusal refusal why
-  unfailed-event history (Refused refusal) why = unfailed-refusal refusal why
-  unfailed-event history event why = tt
-
-  unfailed-behind : (history : History) (before entries : List Entry) → AreLossesBehind setting history before entries → All (λ e. TellsNoFailure e.event) entries
-  unfailed-behind history before [] why = All-nil (λ e. TellsNoFailure e.event)
-  unfailed-behind history before (e ∷ entries) why = All-cons (λ e. TellsNoFailure e.event) e entries (unfailed-event (with_entries before history) e.event why.0)
-      (unfailed-behind history (before ++ e ∷ []) entries why.1)
-
-  pub unfailed-epochs : (epochs : List Epoch) → AreLossesFailed setting epochs → AreUnfailed epochs
-  unfailed-epochs [] why = All-nil (λ epoch. All (λ e. TellsNoFailure e.event) epoch.entries.items)
-  unfailed-epochs (epoch ∷ epochs) why = All-cons (λ epoch. All (λ e. TellsNoFailure e.event) epoch.entries.items) epoch epochs
-      (unfailed-behind (history_of epoch) [] epoch.entries.items (All-head (λ epoch. AreLossesBehind setting (history_of epoch) [] epoch.entries.items) epoch epochs why))
-      (unfailed-epochs epochs (All-tail (λ epoch. AreLossesBehind setting (history_of epoch) [] epoch.entries.items) epoch epochs why))
 
 -- a run that performed nothing has no entries
 pub none-unfailed : (epochs : List Epoch) → epochs ≡ [] → AreUnfailed epochs
@@ -89,3 +67,74 @@ well-ended status few words source sink = elim (cases_lt 1 status) [
   ]
   | inr one ↦ inl one
 ]
+
+-- ---- what is answered
+
+-- what was performed, or nothing, by the status
+performed-or_nothing : {Performed Undone Same : Type 0} (status : ℕ) → status ≤ 6 → (IsAfterLines status → Performed) → (status ≡ 6 → Performed ⊎ (Undone × Same)) → (IsBeforeLines status → Undone) → Performed ⊎ Undone
+performed-or_nothing zero few after short before = inl (after (inl (omega arith)))
+performed-or_nothing (suc zero) few after short before = inl (after (inr (inl (omega arith))))
+performed-or_nothing (suc (suc zero)) few after short before = inr (before (inl (omega arith)))
+performed-or_nothing (suc (suc (suc zero))) few after short before = inr (before (inr (inl (omega arith))))
+performed-or_nothing (suc (suc (suc (suc zero)))) few after short before = inr (before (inr (inr (omega arith))))
+performed-or_nothing (suc (suc (suc (suc (suc zero))))) few after short before = inl (after (inr (inr (omega arith))))
+performed-or_nothing {Performed = Performed} {Undone = Undone} {Same = Same} (suc (suc (suc (suc (suc (suc n)))))) few after short before = by (short (omega (arith, few)))
+  where
+    by : Performed ⊎ (Undone × Same) → Performed ⊎ Undone
+    by (inl done) = inl done
+    by (inr (nothing, same)) = inr nothing
+
+-- a run that performed nothing answered nothing
+pub none-complete : (setting : Setting) (epochs : List Epoch) (lines : List LineReply) → epochs ≡ [] → lines ≡ [] → IsComplete setting epochs lines
+none-complete setting epochs lines no-epochs no-lines = record {
+  answers = λ told none. subst (λ (l : List LineReply). All (λ reply. IsAnswerUnfailed reply.what) l) (sym no-lines) (All-nil (λ reply. IsAnswerUnfailed reply.what));
+  whole = λ told none. subst (λ (l : List Epoch). All (IsWholeEpoch setting) l) (sym no-epochs) (All-nil (IsWholeEpoch setting));
+}
+
+pub run-complete : {answers : AlertKind → ℕ → Bool → Type 0} {demo : Option ℕ} {tells Same : Type 0} {old new : List ℕ} {sunk : Sunk} (setting : Setting) (status : ℕ) (epochs : List Epoch) (lines : List LineReply)
+    → (setting.tells → AreLegal setting.given setting.tape setting.backup epochs) → AreLossesFailed setting epochs → status ≤ 6
+    → (IsAfterLines status → IsScriptPerformed answers demo tells old new setting sunk status epochs lines)
+    → (status ≡ 6 → IsScriptPerformed answers demo tells old new setting sunk status epochs lines ⊎ (IsNothing sunk epochs lines × Same)) → (IsBeforeLines status → IsNothing sunk epochs lines) → IsComplete setting epochs lines
+run-complete {answers = answers} {demo = demo} {tells = tells} {old = old} {new = new} {sunk = sunk} setting status epochs lines legal why few after short before = record {
+  answers = λ told none. by told none (performed-or_nothing status few after short before);
+  whole = λ told none. epochs-whole setting epochs none (legal told) why told;
+}
+  where
+    by : setting.tells → NoneFailed setting.before setting.now → IsScriptPerformed answers demo tells old new setting sunk status epochs lines ⊎ IsNothing sunk epochs lines → All (λ reply. IsAnswerUnfailed reply.what) lines
+    by told none (inl done) = replies-unfailed setting told none (histories_of epochs) (at_rest 0) (take (length lines) done.asked) lines done.performed.replies
+    by told none (inr nothing) = subst (λ (l : List LineReply). All (λ reply. IsAnswerUnfailed reply.what) l) (sym nothing.lines_are) (All-nil (λ reply. IsAnswerUnfailed reply.what))
+
+-- ---- refusals
+
+event-refused : (line : Line) (event : Event) → tells_refusal line event ≡ true → is_refused event ≡ true
+event-refused line (Refused refusal) told = refl
+event-refused line (Stepped done left (Some refusal)) told = refl
+event-refused Wait event told = told
+event-refused line event told = told
+
+answer-refused : (histories : List History) (line : Line) (what : Answered) → is_refusal histories line what ≡ true → is_refused_answer histories what ≡ true
+answer-refused histories line (Inside epoch at) told = by (entry_at histories epoch at) told
+  where
+    by : (found : Option Entry) → option_map_or (λ e. tells_refusal line e.event) found false ≡ true → option_map_or (λ e. is_refused e.event) found false ≡ true
+    by None told = told
+    by (Some e) told = event-refused line e.event told
+answer-refused histories line (IsOutside (WasRefused refusal)) told = refl
+answer-refused histories line (IsOutside outside) told = told
+
+-- where a reply is a refusal, one of them tells one
+pub some-refused : (histories : List History) (lines : List Numbered) (replies : List LineReply) → has_refusal histories lines replies ≡ true → list_any (λ reply. is_refused_answer histories reply.what) replies ≡ true
+some-refused histories [] [] told = absurd (cc)
+some-refused histories (line ∷ lines) [] told = absurd (cc)
+some-refused histories [] (reply ∷ replies) told = absurd (cc)
+some-refused histories (line ∷ lines) (reply ∷ replies) told =
+    by (is_refusal histories line.line reply.what) (answer-refused histories line.line reply.what) (λ rest. some-refused histories lines replies rest) told
+  where
+    either : (a b : Bool) → b ≡ true → (a || b) ≡ true
+    either true b is = refl
+    either false b is = is
+
+    by : (b : Bool) → (b ≡ true → is_refused_answer histories reply.what ≡ true)
+        → (has_refusal histories lines replies ≡ true → list_any (λ reply. is_refused_answer histories reply.what) replies ≡ true) → (b || has_refusal histories lines replies) ≡ true
+        → (is_refused_answer histories reply.what || list_any (λ reply. is_refused_answer histories reply.what) replies) ≡ true
+    by true this others told = ap (λ b. b || list_any (λ reply. is_refused_answer histories reply.what) replies) (this refl)
+    by false this others told = either (is_refused_answer histories reply.what) (list_any (λ reply. is_refused_answer histories reply.what) replies) (others told)

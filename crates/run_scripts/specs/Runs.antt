@@ -22,6 +22,7 @@ use Rattle.run_session.specs.history_monitor_the_AlertKind.{AlertKind}
 use Rattle.run_session.specs.Alerting.{AreAlertsTold}
 use Rattle.run_session.specs.Sessions.{IsCourse, counted, taken_whole, IsTaken}
 use Rattle.run_session.specs.run_blocks_Shown.{report_text, has_refusal}
+use Rattle.run_scripts.specs.Done.{NoneFailed, AreAnswersDone}
 use Rattle.run_scripts.specs.Source.{IsTextFor}
 use Rattle.run_session.specs.run_specs_States.{histories_in, bank_in, course_in, AreOfScript, AreGrown, AreLossesBehind, AreLossesFrom}
 use Rattle.run_session.specs.Writes.{AreWritesPlaced, AreQuiet}
@@ -48,7 +49,8 @@ pub record AreHalted (course : Course) (histories : List History) : Type 0 where
   pub halted : IsTrue course.running → MatchOption (slice_get histories (length histories - 1)) ⊥ (λ history. IsHalted course.calls history)
 
 -- The lines were performed one after another, up to the last or to where the run stopped, and the array was halted. The replies are
--- there but for that of a line for which memory was short. From line to line there is a record of the array that runs, by which each answer has its cause.
+-- there but for that of a line for which memory was short. From line to line there is a record of the array that runs, by which each answer has its cause. Where no device failed, the lines of an array that
+-- stays whole are done.
 pub record AreLinesPerformed (setting : Setting) (asked : List Numbered) (stopped : Option Stop) (epochs : List Epoch) (lines : List LineReply) : Type 0 where
   pub few : length lines ≤ length asked
   pub all : stopped ≡ None → length lines ≡ length asked
@@ -62,6 +64,7 @@ pub record AreLinesPerformed (setting : Setting) (asked : List Numbered) (stoppe
   pub ends : setting.tells → AreInOrder setting.began (length setting.tape) lines
   pub written : setting.tells → AreWritesPlaced setting (histories_of epochs) stopped course.running asked lines
   pub quiet : setting.tells → AreQuiet setting stopped course.running asked lines epochs
+  pub done : setting.tells → NoneFailed setting.before setting.now → AreAnswersDone setting (histories_of epochs) (at_rest 0) (take (length lines) asked) lines
 
 -- 0 where no reply is a refusal, 1 where one is
 abbrev pub AreTold : ℕ → Bool → Type 0

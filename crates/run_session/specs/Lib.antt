@@ -9,7 +9,11 @@ pub use Rattle.run_blocks.specs.run_specs_Making
 pub use Rattle.run_blocks.specs.Shown as run_blocks_Shown
 pub use Rattle.run_blocks.specs.run_specs_States
 pub use Rattle.run_blocks.specs.run_specs_Written
+pub use Rattle.run_blocks.specs.run_specs_Blocks
+pub use Rattle.run_blocks.specs.run_specs_the_Answered
+pub use Rattle.run_blocks.specs.run_specs_the_Answered_TheVariants
 pub use Rattle.run_blocks.specs.run_specs_the_LineReply
+pub use Rattle.run_blocks.specs.run_specs_the_Outside_TheVariants
 pub use Rattle.run_blocks.specs.run_specs_the_State
 pub use Rattle.run_blocks.specs.run_specs_Caused
 pub use Rattle.run_blocks.specs.run_specs_Records

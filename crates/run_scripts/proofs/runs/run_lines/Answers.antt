@@ -33,6 +33,8 @@ returns-clause-performed g c =
     (subst (λ (b : g.row.B.Denot). Grows g.B.Bank.tells (g.B.Bank.tape c.args.bank) (g.B.Bank.tape b)) (sym ended.same_bank) did.grows)
     (subst (λ (known : Given). g.B.Bank.tells → IsWritten (setting_of g.B.Bank.tells known (g.B.Bank.tape c.end_run-bank.result.0) (g.B.Bank.tape c.end_run-bank.result.0) c.args.backup (g.B.Bank.faults_of c.end_run-bank.result.0) (g.B.Bank.faults_of c.end_run-bank.result.0)) (histories_in c.perform-state.result.state) (histories_of c.end_run-bank.result.1.items) (λ slot. ⊥)) c.perform-state.ensures.given c.end_run-bank.ensures.written)
     c.end_run-bank.ensures.rising
+    (subst (λ (known : Given). g.B.Bank.tells → AreLegal known (g.B.Bank.tape c.end_run-bank.result.0) c.args.backup c.end_run-bank.result.1.items) c.perform-state.ensures.given c.end_run-bank.ensures.legal)
+    c.requires.lanes
 
 pub returns-clause-alerts : goal.returns-clause-alerts
 returns-clause-alerts g c =
