@@ -1,5 +1,4 @@
-use Rattle.std.proofs.Common.{◌≡◌, ℕ, ◌+◌, ◌-◌, ◌*◌, ◌/◌, ◌%◌, ◌<◌, ◌≤◌, true, refl, sym, ◌∙◌, ap, arith}
-use Rattle.std.proofs.lemmas.Nat.{div-add-mod'}
+use Rattle.std.proofs.Common.{◌≡◌, ℕ, ◌+◌, ◌*◌, ◌%◌, ◌<◌, true, sym, ◌∙◌, ap, arith}
 use Rattle.raid_layout.specs.raid_types_the_Shape.{Shape}
 use Rattle.raid_layout.specs.raid_types_the_Place.{Place}
 use Rattle.raid_layout.specs.raid_types_Shapes.{is_valid_shape}

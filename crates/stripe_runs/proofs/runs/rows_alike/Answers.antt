@@ -1,4 +1,4 @@
-use Rattle.std.proofs.Common.{◌≡◌, ◌+◌, ◌-◌, ◌<◌, ◌≤◌, ℕ, sym, ap, ◌∙◌, arith}
+use Rattle.std.proofs.Common.{◌-◌, ◌≤◌, sym, ap, ◌∙◌, arith}
 use Rattle.stripe_row.specs.sb_specs_Reading.{role_state, holder}
 use Rattle.stripe_row.specs.Rows.{reading_of}
 use Rattle.stripe_runs.proofs.AlikeLaws.{state_alike, recovered_past, recovered_below, recovered_most}

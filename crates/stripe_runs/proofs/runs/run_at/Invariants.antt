@@ -1,5 +1,4 @@
-use Rattle.std.proofs.Common.{◌≡◌, ◌+◌, ◌<◌, ◌≤◌, ℕ, length}
-use Rattle.std.specs.Prelude.{slice_index}
+use Rattle.std.proofs.Common.{◌≡◌, ◌+◌, ◌<◌, ◌≤◌, ℕ}
 use Rattle.stripe_row.specs.Rows.{reading_of, is_held}
 use Rattle.stripe_runs.specs.declared.runs.Run.{Run}
 use Rattle.stripe_runs.specs.Runs.{IsRunAt}
