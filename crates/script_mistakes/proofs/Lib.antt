@@ -1,2 +1,3 @@
 pub mod NearestLaws
 pub mod ReadLaws
+pub mod PartLaws

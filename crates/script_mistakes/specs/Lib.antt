@@ -1,3 +1,4 @@
 pub mod Marked
 pub mod Nearest
 pub mod Reasons
+pub mod Explained

@@ -111,7 +111,8 @@ pub fn push_marked(
     Ok(())
 }
 
-fn push_shown(text: &mut Vec<u8>, line: &[u8]) -> Result<(), AllocError>
+/// Appends the line; a byte that is not printable ASCII is shown as `?`.
+pub fn push_shown(text: &mut Vec<u8>, line: &[u8]) -> Result<(), AllocError>
     ensures { OnOk result (text.new.items ≡ text.old.items ++ map shown line.now) }
 {
     for byte in line {
