@@ -2,14 +2,21 @@
 #![tactic(auto)]
 
 ghost use Rattle.std.specs.Prelude.{◌≡◌, ◌≤◌, length, map, string_bytes, Some, None, IfOk, IfSome};
-ghost use Rattle.script_argv.specs.Words.{command_in, told_by, slots_for};
-ghost use Rattle.script_argv.specs.Words.Asked.{Memory as IsMemory, Run as IsRun, Demo as IsDemo};
+ghost use Rattle.script_argv.specs.Words.{command_in, slots_for};
+ghost use Rattle.script_argv.specs.Words.Asked.{Memory as IsMemory, Demo as IsDemo};
+
+mod ended;
+mod files;
+mod looks;
 
 use bank::{Bank, MemoryBank};
-use bank_file::{FileBank, FileFault};
-use run_command::{Hook, Pace, Report, run, run_over_devices};
-use script_argv::{Command, Paths, command_of};
+use ended::{BAD_WORDS, CANNOT_WRITE, Ended, NO_MEMORY, bad_words, say, tell};
+use files::run_files;
+use looks::look_by;
+use run_command::{Hook, Pace, run};
+use script_argv::{Command, command_of};
 use script_io::{MemorySource, Source, StdSink, StdSource};
+use script_kept::KeptSource;
 use std::alloc::{AllocError, Global};
 use std::fs::{File, Files};
 use std::process::ExitCode;
@@ -17,6 +24,8 @@ use std::rt::Env;
 use std::sync::Wait;
 use std::thread::Threads;
 use std::{env, io};
+use tool_layout::{picture, shape_of};
+use tool_words::{Tool, VERSION, help_text, take_quiet, tool_of};
 
 // A bank in memory: seven members and the backup.
 const SLOTS: usize = 8;
@@ -40,18 +49,6 @@ fn steps(_turn: u64, left: u64) -> u64
     if left < 16 { 1 } else { 16 }
 }
 
-// The status of a run that could not begin, since a file can't be opened, and of one for which memory is short.
-const CANNOT_OPEN: u8 = 7;
-
-const NO_MEMORY: u8 = 6;
-
-// How a run ended: its status, and the number of the first bad line, where there is one.
-#[derive(Clone, Copy)]
-struct Ended {
-    status: u8,
-    bad_line: u64,
-}
-
 fn memory_bank(alloc: Global) -> Result<MemoryBank, AllocError>
     ensures { IfOk result (λ bank. length bank.start ≡ 8) }
 {
@@ -69,28 +66,21 @@ fn demo_bank(alloc: Global, size: u64) -> Result<MemoryBank, AllocError>
     MemoryBank::new(alloc, lengths, 2_048 * size + 16_384, Vec::new(alloc))
 }
 
-// What a report says of the end.
-fn end_of<B: Drop>(report: Report<B>) -> Ended {
-    Ended {
-        status: report.status,
-        bad_line: report.bad_line,
-    }
-}
-
 // Runs over this bank in memory, as the words ask.
-fn run_over<B: Bank + Drop + Send, S: Source, R: Print + AllocGlobal + Threads + Wait + Sync>(
-    rt: &R,
-    words: &[String],
-    source: &mut S,
-    bank: B,
-) -> Ended
+fn run_over<
+    B: Bank + Drop + Send,
+    S: Source + Drop,
+    R: Print + AllocGlobal + Threads + Wait + Sync,
+>(rt: &R, words: &[String], source: S, bank: B) -> Ended
     requires { IfSome (command_in (map string_bytes words.now)) (λ command. (B.given bank).slots ≡ slots_for command) }
 {
+    let alloc = rt.alloc();
+    let mut script = KeptSource::new(alloc, source);
     let mut sink = StdSink::new(io::writer(rt));
     let pace = Pace::new(|turn, left| steps(turn, left));
     let hook = Hook::new(|_, _| true);
-    let report = run(rt, rt.alloc(), words, source, &mut sink, bank, pace, hook);
-    end_of(report)
+    let report = run(rt, alloc, words, &mut script, &mut sink, bank, pace, hook);
+    Ended::of(alloc, report, &script)
 }
 
 // Words that are no command's form open nothing.
@@ -101,9 +91,13 @@ fn run_without_command<R: Print + AllocGlobal + Threads + Wait + Sync>(
     requires { command_in (map string_bytes words.now) ≡ None }
 {
     let alloc = rt.alloc();
-    let mut source = MemorySource::new(Vec::new(alloc), Vec::new(alloc));
+    let source = MemorySource::new(Vec::new(alloc), Vec::new(alloc));
     let bank = MemoryBank::new(alloc, Vec::new(alloc), 0, Vec::new(alloc))?;
-    Ok(run_over(rt, words, &mut source, bank))
+    let ended = run_over(rt, words, source, bank);
+    if ended.status == BAD_WORDS {
+        return Ok(bad_words(alloc, words));
+    }
+    Ok(ended)
 }
 
 fn run_memory<R: Input + Print + AllocGlobal + Threads + Wait + Sync>(
@@ -113,9 +107,9 @@ fn run_memory<R: Input + Print + AllocGlobal + Threads + Wait + Sync>(
     requires { command_in (map string_bytes words.now) ≡ Some IsMemory }
 {
     let alloc = rt.alloc();
-    let mut source = StdSource::new(rt.reader());
+    let source = StdSource::new(rt.reader());
     let bank = memory_bank(alloc)?;
-    Ok(run_over(rt, words, &mut source, bank))
+    Ok(run_over(rt, words, source, bank))
 }
 
 // A demo reads no script.
@@ -129,50 +123,41 @@ fn run_demo<R: Print + AllocGlobal + Threads + Wait + Sync>(
     requires few { size ≤ 64 }
 {
     let alloc = rt.alloc();
-    let mut source = MemorySource::new(Vec::new(alloc), Vec::new(alloc));
+    let source = MemorySource::new(Vec::new(alloc), Vec::new(alloc));
     let bank = demo_bank(alloc, size)?;
-    Ok(run_over(rt, words, &mut source, bank))
+    Ok(run_over(rt, words, source, bank))
 }
 
-// Tells the path of a file that can't be opened, so that nothing is run.
-fn cannot_open<R: Eprint>(rt: &R, path: &str) -> Ended {
-    let _ = eprintln!(rt; "mdgrow: cannot open {path}");
-    Ended {
-        status: CANNOT_OPEN,
-        bad_line: 0,
+// What words ask for that is no run.
+fn run_tool<R: Files<File = File> + Print + Eprint + AllocGlobal + Threads + Wait + Sync>(
+    rt: &R,
+    words: &[String],
+    tool: Tool,
+) -> Result<Ended, AllocError> {
+    match tool {
+        Tool::Help(topic) => Ok(say(rt, help_text(topic))),
+        Tool::Version => Ok(say(rt, VERSION)),
+        Tool::Examine => look_by(rt, words, false),
+        Tool::Detail => look_by(rt, words, true),
+        Tool::Layout => draw(rt, words),
     }
 }
 
-// Runs a script's file over image files, by the call for any devices.
-fn run_files<R: Files<File = File> + Print + Eprint + AllocGlobal + Threads + Wait + Sync>(
-    rt: &R,
-    words: &[String],
-    paths: &Paths,
-) -> Ended
-    requires { command_in (map string_bytes words.now) ≡ Some (IsRun (told_by paths.now)) }
-{
+// Draws the first stripes of an array whose shape stands behind the first word.
+fn draw<R: Print + AllocGlobal>(rt: &R, words: &[String]) -> Result<Ended, AllocError> {
     let alloc = rt.alloc();
-    let Ok(script) = File::open(rt, paths.script.as_str()) else {
-        return cannot_open(rt, paths.script.as_str());
+    let keys = match words {
+        [_, keys @ ..] => keys,
+        [] => words,
     };
-    let bank = match FileBank::from_paths(rt, alloc, &paths.slots) {
-        Ok(bank) => bank,
-        Err(FileFault::CannotOpen(place)) => {
-            return cannot_open(rt, paths.slots[place as usize].as_str());
-        }
-        Err(FileFault::NoMemory) => {
-            return Ended {
-                status: NO_MEMORY,
-                bad_line: 0,
-            };
-        }
+    let Some(shape) = shape_of(alloc, keys)? else {
+        return Ok(bad_words(alloc, words));
     };
-    let mut source = StdSource::new(script);
-    let mut sink = StdSink::new(io::writer(rt));
-    let pace = Pace::new(|turn, left| steps(turn, left));
-    let hook = Hook::new(|_, _| true);
-    let report = run_over_devices(rt, alloc, words, &mut source, &mut sink, bank, pace, hook);
-    end_of(report)
+    let drawn = picture(alloc, &shape)?;
+    match str::from_utf8(drawn.as_slice()) {
+        Ok(text) => Ok(say(rt, text)),
+        Err(_) => Ok(Ended::with(CANNOT_WRITE)),
+    }
 }
 
 fn words_of<R: Env + AllocGlobal>(rt: &R) -> io::Result<Vec<String>> {
@@ -183,47 +168,29 @@ fn words_of<R: Env + AllocGlobal>(rt: &R) -> io::Result<Vec<String>> {
     Ok(words)
 }
 
-fn run_words<
+fn perform<
     R: Env + Files<File = File> + Input + Print + Eprint + AllocGlobal + Threads + Wait + Sync,
 >(rt: &R) -> io::Result<Ended> {
-    let words = words_of(rt)?;
+    let mut words = words_of(rt)?;
+    let is_quiet = take_quiet(&mut words);
     match command_of(rt.alloc(), &words) {
         Ok(Some(Command::Memory)) => Ok(run_memory(rt, &words)?),
-        Ok(Some(Command::Run(paths))) => Ok(run_files(rt, &words, &paths)),
+        Ok(Some(Command::Run(paths))) => Ok(run_files(rt, &words, &paths, is_quiet)),
         Ok(Some(Command::Demo(size))) => Ok(run_demo(rt, &words, size)?),
-        Ok(None) => Ok(run_without_command(rt, &words)?),
-        Err(_) => Ok(Ended {
-            status: NO_MEMORY,
-            bad_line: 0,
-        }),
-    }
-}
-
-// What the status means, on standard error.
-fn tell<R: Eprint>(rt: &R, ended: Ended) -> io::Result<()> {
-    let line = ended.bad_line;
-    match ended.status {
-        2 => eprintln!(rt; "mdgrow: bad words"),
-        3 => eprintln!(rt; "mdgrow: bad line {line}"),
-        4 => eprintln!(rt; "mdgrow: cannot read the script"),
-        5 => eprintln!(rt; "mdgrow: cannot write"),
-        6 => eprintln!(rt; "mdgrow: out of memory"),
-        _ => Ok(()),
+        Ok(None) => match tool_of(&words) {
+            Some(tool) => Ok(run_tool(rt, &words, tool)?),
+            None => Ok(run_without_command(rt, &words)?),
+        },
+        Err(_) => Ok(Ended::with(NO_MEMORY)),
     }
 }
 
 fn main(rt: HostRuntime) -> ExitCode {
-    let ended = match run_words(&rt) {
+    let ended = match perform(&rt) {
         Ok(ended) => ended,
-        Err(error) => Ended {
-            status: if error.kind() == io::ErrorKind::OutOfMemory {
-                NO_MEMORY
-            } else {
-                2
-            },
-            bad_line: 0,
-        },
+        Err(error) if error.kind() == io::ErrorKind::OutOfMemory => Ended::with(NO_MEMORY),
+        Err(_) => Ended::with(BAD_WORDS),
     };
-    let _ = tell(&rt, ended);
+    let _ = tell(&rt, &ended);
     ExitCode::from(ended.status)
 }

@@ -1,6 +1,7 @@
 //! The shape that words ask for.
 
-ghost use Rattle.std.specs.Prelude.{◌≡◌, ◌++◌, ◌∷◌, map, string_bytes, IfOk, OnOk};
+ghost use Rattle.std.specs.Prelude.{◌≡◌, ◌++◌, ◌∷◌, map, string_bytes, IfOk, IfSome, IsTrue, OnOk};
+ghost use Rattle.raid_types.specs.Shapes.{is_valid_shape};
 ghost use Rattle.std.specs.List.{flat_map};
 ghost use Rattle.tool_layout.specs.Asked.{create_line, shape_meant, shape_in};
 
@@ -22,7 +23,8 @@ fn push_words(line: &mut Vec<u8>, words: &[String]) -> Result<(), AllocError>
 
 // The shape of the array that a line asks for, if it is one that there is.
 fn shape_meant(meaning: &Meaning) -> Option<Shape>
-    ensures { result ≡ shape_meant meaning.now }
+    ensures meant { result ≡ shape_meant meaning.now }
+    ensures valid { IfSome result (λ shape. IsTrue (is_valid_shape shape)) }
 {
     match meaning {
         Meaning::Asks(_, Line::Create(asked)) => {
@@ -39,7 +41,8 @@ fn shape_meant(meaning: &Meaning) -> Option<Shape>
 /// The shape that these words ask for, by the keys `level`, `disks`, `chunk` and `layout` of a `create` line; `None` where they are no such
 /// keys, or no array has that shape.
 pub fn shape_of(alloc: Global, words: &[String]) -> Result<Option<Shape>, AllocError>
-    ensures { IfOk result (λ found. found ≡ shape_in (map string_bytes words.now)) }
+    ensures asked { IfOk result (λ found. found ≡ shape_in (map string_bytes words.now)) }
+    ensures valid { IfOk result (λ found. IfSome found (λ shape. IsTrue (is_valid_shape shape))) }
 {
     let mut line = Vec::new(alloc);
     line.extend_from_slice(b"create 00000000-0000-0000-0000-000000000000 size=8")?;
