@@ -1,38 +1,34 @@
 //! The steps of a rebuild.
 
-ghost use Rattle.std.specs.Prelude.{◌≡◌, ◌≢◌, ◌+◌, ◌<◌, ◌≤◌, ◌∷◌, [], true, None, Err, OnOk, OnErr};
-ghost use Rattle.array_fixed.specs.raid_types_the_Fault_TheVariants.{NoMemory as WantsMemory};
-ghost use Rattle.array_fixed.specs.sb_specs_Reading.{shape_of, is_clean, list_length};
-ghost use Rattle.array_fixed.specs.sb_specs_Reads.{has_spare};
-ghost use Rattle.array_fixed.specs.stripe_row_Rows.{reading_of, present};
-ghost use Rattle.array_fixed.specs.history_Flat.{now};
-ghost use Rattle.array_fixed.specs.history_Sound.{OpensFit};
-ghost use Rattle.array_fixed.specs.history_World.{opening_list};
-ghost use Rattle.array_fixed.specs.history_the_Event_TheVariants.{Step, Rebuilt as IsRebuilt};
-ghost use Rattle.array_fixed.specs.history_the_StepKind_TheVariants.{RebuildTaken as TakesRole, RebuildStripe as FillsStripe, RebuildEnded as EndsRebuild};
-ghost use Rattle.array_fixed.specs.crash_views_Regions.{DoWithout};
-ghost use Rattle.array_fixed.specs.array_members_Lacking.{AreTooMany, RowsStand};
-ghost use Rattle.array_fixed.specs.array_members_Placed.{is_unassigned, AreStillHeld};
-ghost use Rattle.array_fixed.specs.array_members_Rebuilding.{Held};
-ghost use Rattle.array_fixed.specs.array_members_Status.{rebuilt_of};
-ghost use Rattle.array_fixed.specs.array_call_specs_Calls.{AreSparesFewer, IsHeldOrGiven, AreHeldOrSpare, HasStripeUnbuilt, AreStripesRebuilt, IsWholeOrLost, IsRecoveredOrLost, with_rebuilt, by_answer, AreStepsFewer, AreStepsKept, IsRebuildStepped, IsCausedBy};
-ghost use Rattle.array_fixed.specs.history_invariant_Recorded.{IsCallGoing};
-ghost use Rattle.array_fixed.specs.array_specs_Parts.{still_left};
-ghost use Rattle.array_fixed.specs.array_specs_Calls.{moving_world};
-ghost use Rattle.array_fixed.specs.array_specs_Plans.{ArePlansKept};
-ghost use Rattle.array_fixed.specs.array_fixed_laws_Steps.{IsStepped, IsClosable, IsCallUnbroken};
+ghost use Rattle.std.specs.Prelude.{◌≡◌, ◌≢◌, ◌+◌, ◌<◌, ◌≤◌, ◌∷◌, [], true, None, Err, OnOk, OnErr, false};
+ghost use Rattle.array_type.specs.raid_types_the_Fault_TheVariants.{NoMemory as WantsMemory};
+ghost use Rattle.array_type.specs.sb_specs_Reading.{shape_of, is_clean, list_length, is_reshaping};
+ghost use Rattle.array_type.specs.sb_specs_Reads.{has_spare};
+ghost use Rattle.array_type.specs.stripe_row_Rows.{reading_of, present};
+ghost use Rattle.array_type.specs.history_Flat.{now};
+ghost use Rattle.array_type.specs.history_Sound.{OpensFit};
+ghost use Rattle.array_type.specs.history_World.{opening_list};
+ghost use Rattle.array_type.specs.history_the_Event_TheVariants.{Step, Rebuilt as IsRebuilt};
+ghost use Rattle.array_type.specs.history_the_StepKind_TheVariants.{RebuildTaken as TakesRole, RebuildStripe as FillsStripe, RebuildEnded as EndsRebuild};
+ghost use Rattle.array_type.specs.crash_views_Regions.{DoWithout};
+ghost use Rattle.array_type.specs.array_members_Lacking.{AreTooMany, RowsStand};
+ghost use Rattle.array_type.specs.array_members_Placed.{is_unassigned, AreStillHeld};
+ghost use Rattle.array_type.specs.array_members_Rebuilding.{Held};
+ghost use Rattle.array_type.specs.array_members_Status.{rebuilt_of};
+ghost use Rattle.array_type.specs.array_call_specs_Calls.{AreSparesFewer, IsHeldOrGiven, AreHeldOrSpare, HasStripeUnbuilt, AreStripesRebuilt, IsWholeOrLost, IsRecoveredOrLost, with_rebuilt, by_answer, AreStepsFewer, AreStepsKept, IsRebuildStepped, IsCausedBy};
+ghost use Rattle.array_type.specs.history_invariant_Recorded.{IsCallGoing};
+ghost use Rattle.array_type.specs.array_specs_Parts.{still_left};
+ghost use Rattle.array_type.specs.array_specs_Calls.{moving_world};
+ghost use Rattle.array_type.specs.array_specs_Plans.{ArePlansKept};
+ghost use Rattle.array_type.specs.array_fixed_laws_Steps.{IsStepped, IsClosable, IsCallUnbroken};
 
 use crate::naming::{fill_and_name, give_and_name, record_and_name};
 use crate::refusing::refuse_step;
-use array_fixed::{
-    Bank, Event, Fault, StepKind, Still, Who, all_left, append_after_losses, append_entry,
-    append_lost, check_going, is_unassigned, newly_unassigned, recovering_slot, set_rebuilt,
-    shape_in, too_many, unassigned_roles, with, without,
-};
+use array_type::{Bank, Event, Fault, StepKind, Array, Who, left_at_rest, append_after_losses, append_entry, append_lost, check_going, is_unassigned, newly_unassigned, recovering_slot, set_rebuilt, shape_in, too_many, unassigned_roles, with, without};
 
 /// The first step of a rebuild: gives a role that no slot holds to a spare, which recovers it from the first row on.
 /// Where that slot is lost in it, so is the role. Refusals: `TooManyMissing`. It takes no memory.
-pub fn take_role<B: Bank>(still: &mut Still<B>, who: Who, role: u32, slot: u32) -> Result<(), Fault>
+pub fn take_role<B: Bank>(still: &mut Array<B>, who: Who, role: u32, slot: u32) -> Result<(), Fault>
     requires open { IsCallGoing still.old.parts.entries who }
     requires caller { who.caller ≢ 254 }
     requires role { role < (shape_of still.old.parts.members.newest).disks }
@@ -40,6 +36,7 @@ pub fn take_role<B: Bank>(still: &mut Still<B>, who: Who, role: u32, slot: u32) 
     requires spare { has_spare still.old.parts.members.spares slot ≡ true }
     requires plans { ArePlansKept B.tells (moving_world (B.given still.old.parts.bank) (B.tape still.old.parts.bank) still.old) still.old }
     requires room { 1 ≤ still.old.parts.steps }
+    requires still { is_reshaping still.old.parts.members.newest ≡ false }
     ensures entered { IsRebuildStepped who still.old.parts.entries still.new.parts.entries still.new.parts.members role (Step TakesRole (still_left still.new.parts.work still.new.parts.members still.new.ahead) ∷ []) result }
     ensures memory { result ≢ Err WantsMemory }
     ensures stepped { IsStepped B.tells (B.given still.old.parts.bank) (B.tape still.old.parts.bank) (B.tape still.new.parts.bank) (IsHeldOrGiven still.old.parts.members role slot) (B.faults_of still.old.parts.bank) (B.faults_of still.new.parts.bank) still.old still.new }
@@ -53,6 +50,7 @@ pub fn take_role<B: Bank>(still: &mut Still<B>, who: Who, role: u32, slot: u32) 
     ensures clean { is_clean still.new.parts.members.newest ≡ is_clean still.old.parts.members.newest }
     ensures open { IsCallGoing still.new.parts.entries who }
     ensures room { still.new.parts.steps + 1 ≡ still.old.parts.steps }
+    ensures still { is_reshaping still.new.parts.members.newest ≡ false }
     ensures given { B.given still.new.parts.bank ≡ B.given still.old.parts.bank }
 {
     if let Some(refusal) = too_many(&still.members) {
@@ -68,7 +66,7 @@ pub fn take_role<B: Bank>(still: &mut Still<B>, who: Who, role: u32, slot: u32) 
     set_rebuilt(&mut still.work, role, 0);
     let end = still.bank.ops();
     let kind = StepKind::RebuildTaken;
-    let left = all_left(&still.members, &still.work, &still.ahead);
+    let left = left_at_rest(&still.members, &still.work, &still.ahead);
     let event = Event::Step { kind, left };
     append_after_losses(&mut still.epoch, who, end, roles, spares, event);
     Ok(())
@@ -76,12 +74,13 @@ pub fn take_role<B: Bank>(still: &mut Still<B>, who: Who, role: u32, slot: u32) 
 
 /// A step of a rebuild: rebuilds the next stripe of the role on the slot that recovers it. Where that slot is lost, this ends
 /// the rebuild, and only the loss is entered. Refusals: `TooManyMissing`. It takes no memory.
-pub fn rebuild_stripe<B: Bank>(still: &mut Still<B>, who: Who, role: u32) -> Result<(), Fault>
+pub fn rebuild_stripe<B: Bank>(still: &mut Array<B>, who: Who, role: u32) -> Result<(), Fault>
     requires open { IsCallGoing still.old.parts.entries who }
     requires caller { who.caller ≢ 254 }
     requires pending { HasStripeUnbuilt still.old.parts.work still.old.parts.members role }
     requires synced { still.old.parts.work.resync ≡ None }
     requires room { 1 ≤ still.old.parts.steps }
+    requires still { is_reshaping still.old.parts.members.newest ≡ false }
     ensures entered { IsRebuildStepped who still.old.parts.entries still.new.parts.entries still.new.parts.members role (Step FillsStripe (still_left still.new.parts.work still.new.parts.members still.new.ahead) ∷ []) result }
     ensures memory { result ≢ Err WantsMemory }
     ensures stepped { IsStepped B.tells (B.given still.old.parts.bank) (B.tape still.old.parts.bank) (B.tape still.new.parts.bank) (Held still.old.parts.members) (B.faults_of still.old.parts.bank) (B.faults_of still.new.parts.bank) still.old still.new }
@@ -95,6 +94,7 @@ pub fn rebuild_stripe<B: Bank>(still: &mut Still<B>, who: Who, role: u32) -> Res
     ensures clean { is_clean still.new.parts.members.newest ≡ is_clean still.old.parts.members.newest }
     ensures open { IsCallGoing still.new.parts.entries who }
     ensures room { still.new.parts.steps + 1 ≡ still.old.parts.steps }
+    ensures still { is_reshaping still.new.parts.members.newest ≡ false }
     ensures given { B.given still.new.parts.bank ≡ B.given still.old.parts.bank }
 {
     if let Some(refusal) = too_many(&still.members) {
@@ -132,7 +132,7 @@ pub fn rebuild_stripe<B: Bank>(still: &mut Still<B>, who: Who, role: u32) -> Res
         return Ok(());
     }
     let kind = StepKind::RebuildStripe;
-    let left = all_left(&still.members, &still.work, &still.ahead);
+    let left = left_at_rest(&still.members, &still.work, &still.ahead);
     let event = Event::Step { kind, left };
     append_after_losses(&mut still.epoch, who, end, roles, filled.spares, event);
     Ok(())
@@ -141,13 +141,14 @@ pub fn rebuild_stripe<B: Bank>(still: &mut Still<B>, who: Who, role: u32) -> Res
 /// The last step of a rebuild, all stripes of which are done: flushes the slot that recovers the role, and records the role
 /// whole. Where that slot is lost, this ends the rebuild, and only the loss is entered. Refusals: `TooManyMissing`. It takes
 /// no memory.
-pub fn end_rebuild<B: Bank>(still: &mut Still<B>, who: Who, role: u32) -> Result<(), Fault>
+pub fn end_rebuild<B: Bank>(still: &mut Array<B>, who: Who, role: u32) -> Result<(), Fault>
     requires open { IsCallUnbroken B.tells (moving_world (B.given still.old.parts.bank) (B.tape still.old.parts.bank) still.old) still.old.parts.entries who }
     requires caller { who.caller ≢ 254 }
     requires pending { AreStripesRebuilt still.old.parts.work still.old.parts.members role }
     requires synced { still.old.parts.work.resync ≡ None }
     requires plans { ArePlansKept B.tells (moving_world (B.given still.old.parts.bank) (B.tape still.old.parts.bank) still.old) still.old }
     requires room { 1 ≤ still.old.parts.steps }
+    requires still { is_reshaping still.old.parts.members.newest ≡ false }
     ensures entered { IsRebuildStepped who still.old.parts.entries still.new.parts.entries still.new.parts.members role (Step EndsRebuild (still_left still.new.parts.work still.new.parts.members still.new.ahead) ∷ IsRebuilt role ∷ []) result }
     ensures memory { result ≢ Err WantsMemory }
     ensures stepped { IsStepped B.tells (B.given still.old.parts.bank) (B.tape still.old.parts.bank) (B.tape still.new.parts.bank) (Held still.old.parts.members) (B.faults_of still.old.parts.bank) (B.faults_of still.new.parts.bank) still.old still.new }
@@ -165,6 +166,7 @@ pub fn end_rebuild<B: Bank>(still: &mut Still<B>, who: Who, role: u32) -> Result
     ensures clean { is_clean still.new.parts.members.newest ≡ is_clean still.old.parts.members.newest }
     ensures open { IsCallGoing still.new.parts.entries who }
     ensures room { still.new.parts.steps + 1 ≡ still.old.parts.steps }
+    ensures still { is_reshaping still.new.parts.members.newest ≡ false }
     ensures given { B.given still.new.parts.bank ≡ B.given still.old.parts.bank }
 {
     if let Some(refusal) = too_many(&still.members) {
@@ -186,7 +188,7 @@ pub fn end_rebuild<B: Bank>(still: &mut Still<B>, who: Who, role: u32) -> Result
         return Ok(());
     }
     let kind = StepKind::RebuildEnded;
-    let left = all_left(&still.members, &still.work, &still.ahead);
+    let left = left_at_rest(&still.members, &still.work, &still.ahead);
     let event = Event::Step { kind, left };
     append_after_losses(&mut still.epoch, who, end, roles, spares, event);
     append_entry(&mut still.epoch, who, end, Event::Rebuilt { role });

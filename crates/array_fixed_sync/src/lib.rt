@@ -10,6 +10,6 @@ mod refusing;
 mod resyncing;
 mod stepping;
 
-pub use array_fixed::{Opened, Still, first_spare, set_rebuilt, steps_left, unassigned_roles};
+pub use array_type::{Array, first_spare, set_rebuilt, steps_left, unassigned_roles};
 pub use choosing::first_recovering;
 pub use stepping::still_step;

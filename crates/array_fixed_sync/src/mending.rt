@@ -1,38 +1,35 @@
 //! The steps of a pending resync.
 
 ghost use Rattle.std.specs.Prelude.{◌≡◌, ◌≢◌, ◌+◌, ◌≤◌, true, false, None, OnOk, OnErr};
-ghost use Rattle.array_fixed.specs.sb_specs_Reading.{shape_of, is_clean, list_length};
-ghost use Rattle.array_fixed.specs.stripe_row_Rows.{reading_of, present};
-ghost use Rattle.array_fixed.specs.history_Flat.{now};
-ghost use Rattle.array_fixed.specs.history_Sound.{OpensFit};
-ghost use Rattle.array_fixed.specs.history_World.{opening_list};
-ghost use Rattle.array_fixed.specs.history_the_StepKind_TheVariants.{ResyncStripe as ResyncsStripe, ResyncEnded as EndsResync};
-ghost use Rattle.array_fixed.specs.array_members_Lacking.{AreHoldersFlushed, AreTooMany, RowsStand};
-ghost use Rattle.array_fixed.specs.crash_views_Regions.{DoWithout};
-ghost use Rattle.array_fixed.specs.array_members_Placed.{AreStillHeld};
-ghost use Rattle.array_fixed.specs.array_members_Rebuilding.{Held};
-ghost use Rattle.array_fixed.specs.sb_safe_updates_First.{write_refusal, IsFirstRefused};
-ghost use Rattle.array_fixed.specs.array_call_specs_Calls.{AreSparesFewer, HasStripeLeft, IsAllSynced, one_more, AreStepsFewer, AreStepsKept, by_answer, IsCausedBy, IsUnmendable};
-ghost use Rattle.array_fixed.specs.history_invariant_Recorded.{IsCallGoing};
-ghost use Rattle.array_fixed.specs.array_specs_Parts.{still_left};
-ghost use Rattle.array_fixed.specs.array_specs_Calls.{moving_world, IsStepTaken};
-ghost use Rattle.array_fixed.specs.array_specs_Plans.{ArePlansKept};
-ghost use Rattle.array_fixed.specs.array_fixed_laws_Steps.{IsStepped, IsClosable};
+ghost use Rattle.array_type.specs.sb_specs_Reading.{shape_of, is_clean, list_length, is_reshaping};
+ghost use Rattle.array_type.specs.stripe_row_Rows.{reading_of, present};
+ghost use Rattle.array_type.specs.history_Flat.{now};
+ghost use Rattle.array_type.specs.history_Sound.{OpensFit};
+ghost use Rattle.array_type.specs.history_World.{opening_list};
+ghost use Rattle.array_type.specs.history_the_StepKind_TheVariants.{ResyncStripe as ResyncsStripe, ResyncEnded as EndsResync};
+ghost use Rattle.array_type.specs.array_members_Lacking.{AreHoldersFlushed, AreTooMany, RowsStand};
+ghost use Rattle.array_type.specs.crash_views_Regions.{DoWithout};
+ghost use Rattle.array_type.specs.array_members_Placed.{AreStillHeld};
+ghost use Rattle.array_type.specs.array_members_Rebuilding.{Held};
+ghost use Rattle.array_type.specs.sb_safe_updates_First.{write_refusal, IsFirstRefused};
+ghost use Rattle.array_type.specs.array_call_specs_Calls.{AreSparesFewer, HasStripeLeft, IsAllSynced, one_more, AreStepsFewer, AreStepsKept, by_answer, IsCausedBy, IsUnmendable};
+ghost use Rattle.array_type.specs.history_invariant_Recorded.{IsCallGoing};
+ghost use Rattle.array_type.specs.array_specs_Parts.{still_left};
+ghost use Rattle.array_type.specs.array_specs_Calls.{moving_world, IsStepTaken};
+ghost use Rattle.array_type.specs.array_specs_Plans.{ArePlansKept};
+ghost use Rattle.array_type.specs.array_fixed_laws_Steps.{IsStepped, IsClosable};
 
 use crate::refusing::refuse_step;
-use array_fixed::{
-    Bank, Event, Fault, StepKind, Still, Who, all_left, append_after_losses, check_going,
-    first_resync_refusal, flush_and_mark, newly_unassigned, resync_rows, shape_in, too_many,
-    unassigned_roles,
-};
+use array_type::{Bank, Event, Fault, StepKind, Array, Who, left_at_rest, append_after_losses, check_going, first_resync_refusal, flush_and_mark, newly_unassigned, resync_rows, shape_in, too_many, unassigned_roles};
 
 /// A step of the pending resync: makes the parity of its next stripe fit the data. Every role that has data must be there.
 /// Refusals: `TooManyMissing` and `NotResynced`. It takes no memory.
-pub fn resync_stripe<B: Bank>(still: &mut Still<B>, who: Who) -> Result<(), Fault>
+pub fn resync_stripe<B: Bank>(still: &mut Array<B>, who: Who) -> Result<(), Fault>
     requires open { IsCallGoing still.old.parts.entries who }
     requires caller { who.caller ≢ 254 }
     requires pending { HasStripeLeft still.old.parts.work.resync still.old.parts.members }
     requires room { 1 ≤ still.old.parts.steps }
+    requires still { is_reshaping still.old.parts.members.newest ≡ false }
     ensures entered { IsStepTaken who still.old.parts.entries still.new.parts.entries ResyncsStripe (still_left still.new.parts.work still.new.parts.members still.new.ahead) result }
     ensures stepped { IsStepped B.tells (B.given still.old.parts.bank) (B.tape still.old.parts.bank) (B.tape still.new.parts.bank) (Held still.old.parts.members) (B.faults_of still.old.parts.bank) (B.faults_of still.new.parts.bank) still.old still.new }
     ensures held { AreStillHeld still.old.parts.members still.new.parts.members }
@@ -46,6 +43,7 @@ pub fn resync_stripe<B: Bank>(still: &mut Still<B>, who: Who) -> Result<(), Faul
     ensures dirty { OnOk result (is_clean still.new.parts.members.newest ≡ false) }
     ensures open { IsCallGoing still.new.parts.entries who }
     ensures room { still.new.parts.steps + 1 ≡ still.old.parts.steps }
+    ensures still { is_reshaping still.new.parts.members.newest ≡ false }
     ensures given { B.given still.new.parts.bank ≡ B.given still.old.parts.bank }
 {
     if let Some(refusal) = first_resync_refusal(&still.members) {
@@ -74,7 +72,7 @@ pub fn resync_stripe<B: Bank>(still: &mut Still<B>, who: Who) -> Result<(), Faul
     }
     still.work.resync = Some(stripe + 1);
     let kind = StepKind::ResyncStripe;
-    let left = all_left(&still.members, &still.work, &still.ahead);
+    let left = left_at_rest(&still.members, &still.work, &still.ahead);
     let event = Event::Step { kind, left };
     append_after_losses(&mut still.epoch, who, end, roles, mended.spares, event);
     Ok(())
@@ -82,12 +80,13 @@ pub fn resync_stripe<B: Bank>(still: &mut Still<B>, who: Who) -> Result<(), Faul
 
 /// The last step of the pending resync, whose stripes are all mended: flushes the members and marks the array clean. Refusals:
 /// `TooManyMissing`. It takes no memory.
-pub fn end_resync<B: Bank>(still: &mut Still<B>, who: Who) -> Result<(), Fault>
+pub fn end_resync<B: Bank>(still: &mut Array<B>, who: Who) -> Result<(), Fault>
     requires open { IsCallGoing still.old.parts.entries who }
     requires caller { who.caller ≢ 254 }
     requires pending { IsAllSynced still.old.parts.work.resync still.old.parts.members }
     requires plans { ArePlansKept B.tells (moving_world (B.given still.old.parts.bank) (B.tape still.old.parts.bank) still.old) still.old }
     requires room { 1 ≤ still.old.parts.steps }
+    requires still { is_reshaping still.old.parts.members.newest ≡ false }
     ensures entered { IsStepTaken who still.old.parts.entries still.new.parts.entries EndsResync (still_left still.new.parts.work still.new.parts.members still.new.ahead) result }
     ensures stepped { IsStepped B.tells (B.given still.old.parts.bank) (B.tape still.old.parts.bank) (B.tape still.new.parts.bank) (Held still.old.parts.members) (B.faults_of still.old.parts.bank) (B.faults_of still.new.parts.bank) still.old still.new }
     ensures held { AreStillHeld still.old.parts.members still.new.parts.members }
@@ -104,6 +103,7 @@ pub fn end_resync<B: Bank>(still: &mut Still<B>, who: Who) -> Result<(), Fault>
     ensures flushed { OnOk result (B.tells → AreHoldersFlushed (reading_of still.new.parts.members) (B.given still.old.parts.bank) (B.tape still.new.parts.bank)) }
     ensures open { IsCallGoing still.new.parts.entries who }
     ensures room { still.new.parts.steps + 1 ≡ still.old.parts.steps }
+    ensures still { is_reshaping still.new.parts.members.newest ≡ false }
     ensures given { B.given still.new.parts.bank ≡ B.given still.old.parts.bank }
 {
     if let Some(refusal) = too_many(&still.members) {
@@ -124,7 +124,7 @@ pub fn end_resync<B: Bank>(still: &mut Still<B>, who: Who) -> Result<(), Fault>
     }
     still.work.resync = None;
     let kind = StepKind::ResyncEnded;
-    let left = all_left(&still.members, &still.work, &still.ahead);
+    let left = left_at_rest(&still.members, &still.work, &still.ahead);
     let event = Event::Step { kind, left };
     append_after_losses(&mut still.epoch, who, end, roles, settled.spares, event);
     Ok(())

@@ -1,31 +1,31 @@
 //! The next step of a rebuild.
 
 ghost use Rattle.std.specs.Prelude.{◌≡◌, ◌≢◌, ◌+◌, ◌≤◌, None, Err, OnOk, OnErr};
-ghost use Rattle.array_fixed.specs.raid_types_the_Fault_TheVariants.{NoMemory as WantsMemory};
-ghost use Rattle.array_fixed.specs.sb_specs_Reading.{is_clean, list_length};
-ghost use Rattle.array_fixed.specs.stripe_row_Rows.{present};
-ghost use Rattle.array_fixed.specs.history_World.{opening_list};
-ghost use Rattle.array_fixed.specs.history_Flat.{now};
-ghost use Rattle.array_fixed.specs.history_Sound.{OpensFit};
-ghost use Rattle.array_fixed.specs.history_the_StepKind_TheVariants.{RebuildTaken as TakesRole, RebuildEnded as EndsRebuild};
-ghost use Rattle.array_fixed.specs.array_members_Lacking.{AreTooMany, RowsStand};
-ghost use Rattle.array_fixed.specs.crash_views_Regions.{DoWithout};
-ghost use Rattle.array_fixed.specs.array_call_specs_Calls.{AreHeldOrSpare, IsWholeOrLost, by_answer, AreStepsFewer, AreStepsKept, AreValuesKept, IsRebuildStepped, IsCausedBy};
-ghost use Rattle.array_fixed.specs.history_invariant_Recorded.{IsCallGoing};
-ghost use Rattle.array_fixed.specs.array_specs_Parts.{still_left};
-ghost use Rattle.array_fixed.specs.array_specs_Calls.{moving_world};
-ghost use Rattle.array_fixed.specs.array_specs_Plans.{ArePlansKept};
-ghost use Rattle.array_fixed.specs.array_fixed_laws_Steps.{IsStepped, IsClosable, IsCallUnbroken};
-ghost use Rattle.array_fixed.specs.Rebuilding.{rebuilt_role, rebuild_kind, rebuild_events, after_rebuild, IsRebuildNext, IsGivenToSpare, IsHeldOrNext};
+ghost use Rattle.array_type.specs.raid_types_the_Fault_TheVariants.{NoMemory as WantsMemory};
+ghost use Rattle.array_type.specs.sb_specs_Reading.{is_clean, list_length};
+ghost use Rattle.array_type.specs.stripe_row_Rows.{present};
+ghost use Rattle.array_type.specs.history_World.{opening_list};
+ghost use Rattle.array_type.specs.history_Flat.{now};
+ghost use Rattle.array_type.specs.history_Sound.{OpensFit};
+ghost use Rattle.array_type.specs.history_the_StepKind_TheVariants.{RebuildTaken as TakesRole, RebuildEnded as EndsRebuild};
+ghost use Rattle.array_type.specs.array_members_Lacking.{AreTooMany, RowsStand};
+ghost use Rattle.array_type.specs.crash_views_Regions.{DoWithout};
+ghost use Rattle.array_type.specs.array_call_specs_Calls.{AreHeldOrSpare, IsWholeOrLost, by_answer, AreStepsFewer, AreStepsKept, AreValuesKept, IsRebuildStepped, IsCausedBy};
+ghost use Rattle.array_type.specs.history_invariant_Recorded.{IsCallGoing};
+ghost use Rattle.array_type.specs.array_specs_Parts.{still_left};
+ghost use Rattle.array_type.specs.array_specs_Calls.{moving_world};
+ghost use Rattle.array_type.specs.array_specs_Plans.{ArePlansKept};
+ghost use Rattle.array_type.specs.array_fixed_laws_Steps.{IsStepped, IsClosable, IsCallUnbroken};
+ghost use Rattle.array_type.specs.Rebuilding.{rebuilt_role, rebuild_kind, rebuild_events, after_rebuild, IsRebuildNext, IsGivenToSpare, IsHeldOrNext};
 
 use crate::choosing::{first_recovering, first_unassigned};
 use crate::filling::{end_rebuild, rebuild_stripe, take_role};
-use array_fixed::{Bank, Fault, Still, Who, first_spare};
+use array_type::{Bank, Fault, Array, Who, first_spare};
 
 // Does the next step of a rebuild: of the lowest role that a slot recovers, its next stripe, or, where all are rebuilt, its
 // end; or else gives the lowest role that no slot holds to the lowest spare. Where the slot that is rebuilt is lost, this
 // ends the rebuild, and only the loss is entered. Refusals: `TooManyMissing`. It takes no memory.
-pub(crate) fn rebuild_step<B: Bank>(still: &mut Still<B>, who: Who) -> Result<(), Fault>
+pub(crate) fn rebuild_step<B: Bank>(still: &mut Array<B>, who: Who) -> Result<(), Fault>
     requires open { IsCallGoing still.old.parts.entries who }
     requires unbroken { rebuild_kind still.old.parts.work still.old.parts.members ≡ EndsRebuild → IsCallUnbroken B.tells (moving_world (B.given still.old.parts.bank) (B.tape still.old.parts.bank) still.old) still.old.parts.entries who }
     requires caller { who.caller ≢ 254 }

@@ -1,19 +1,19 @@
 //! A step that is refused before anything was done.
 
 ghost use Rattle.std.specs.Prelude.{◌≡◌, ◌≢◌, ◌+◌, ◌≤◌, None};
-ghost use Rattle.array_fixed.specs.history_the_Event_TheVariants.{Refused};
-ghost use Rattle.array_fixed.specs.array_members_Placed.{AreStillHeld};
-ghost use Rattle.array_fixed.specs.array_members_Rebuilding.{Held};
-ghost use Rattle.array_fixed.specs.array_members_Lacking.{AreTooMany};
-ghost use Rattle.array_fixed.specs.array_call_specs_Calls.{IsBehind, IsUnmendable, AreSparesFewer, AreStepsKept};
-ghost use Rattle.array_fixed.specs.history_invariant_Recorded.{IsCallGoing};
-ghost use Rattle.array_fixed.specs.array_specs_Parts.{still_left};
-ghost use Rattle.array_fixed.specs.array_fixed_laws_Steps.{IsStepped};
+ghost use Rattle.array_type.specs.history_the_Event_TheVariants.{Refused};
+ghost use Rattle.array_type.specs.array_members_Placed.{AreStillHeld};
+ghost use Rattle.array_type.specs.array_members_Rebuilding.{Held};
+ghost use Rattle.array_type.specs.array_members_Lacking.{AreTooMany};
+ghost use Rattle.array_type.specs.array_call_specs_Calls.{IsBehind, IsUnmendable, AreSparesFewer, AreStepsKept};
+ghost use Rattle.array_type.specs.history_invariant_Recorded.{IsCallGoing};
+ghost use Rattle.array_type.specs.array_specs_Parts.{still_left};
+ghost use Rattle.array_type.specs.array_fixed_laws_Steps.{IsStepped};
 
-use array_fixed::{Bank, Event, Refusal, Still, Who, append_entry, check_going};
+use array_type::{Bank, Event, Refusal, Array, Who, append_entry, check_going};
 
 // Enters that a step is refused, before anything was done.
-pub(crate) fn refuse_step<B: Bank>(still: &mut Still<B>, who: Who, refusal: Refusal)
+pub(crate) fn refuse_step<B: Bank>(still: &mut Array<B>, who: Who, refusal: Refusal)
     requires open { IsCallGoing still.old.parts.entries who }
     requires caller { who.caller ≢ 254 }
     requires room { 1 ≤ still.old.parts.steps }

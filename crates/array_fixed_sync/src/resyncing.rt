@@ -1,29 +1,29 @@
 //! The next step of a pending resync.
 
 ghost use Rattle.std.specs.Prelude.{◌≡◌, ◌≢◌, ◌+◌, ◌≤◌, OnOk, OnErr, IsSome, IsTrue};
-ghost use Rattle.array_fixed.specs.sb_specs_Reading.{is_clean, list_length};
-ghost use Rattle.array_fixed.specs.stripe_row_Rows.{reading_of, present};
-ghost use Rattle.array_fixed.specs.history_World.{opening_list};
-ghost use Rattle.array_fixed.specs.history_Flat.{now};
-ghost use Rattle.array_fixed.specs.history_Sound.{OpensFit};
-ghost use Rattle.array_fixed.specs.array_members_Placed.{AreStillHeld};
-ghost use Rattle.array_fixed.specs.array_members_Lacking.{AreHoldersFlushed, RowsStand};
-ghost use Rattle.array_fixed.specs.array_members_Rebuilding.{Held};
-ghost use Rattle.array_fixed.specs.crash_views_Regions.{DoWithout};
-ghost use Rattle.array_fixed.specs.array_call_specs_Calls.{AreSparesFewer, by_answer, AreStepsFewer, AreStepsKept, AreValuesKept, IsCausedBy};
-ghost use Rattle.array_fixed.specs.history_invariant_Recorded.{IsCallGoing};
-ghost use Rattle.array_fixed.specs.array_specs_Parts.{still_left};
-ghost use Rattle.array_fixed.specs.array_specs_Calls.{moving_world, IsStepTaken};
-ghost use Rattle.array_fixed.specs.array_specs_Plans.{ArePlansKept};
-ghost use Rattle.array_fixed.specs.array_fixed_laws_Steps.{IsStepped, IsClosable};
+ghost use Rattle.array_type.specs.sb_specs_Reading.{is_clean, list_length};
+ghost use Rattle.array_type.specs.stripe_row_Rows.{reading_of, present};
+ghost use Rattle.array_type.specs.history_World.{opening_list};
+ghost use Rattle.array_type.specs.history_Flat.{now};
+ghost use Rattle.array_type.specs.history_Sound.{OpensFit};
+ghost use Rattle.array_type.specs.array_members_Placed.{AreStillHeld};
+ghost use Rattle.array_type.specs.array_members_Lacking.{AreHoldersFlushed, RowsStand};
+ghost use Rattle.array_type.specs.array_members_Rebuilding.{Held};
+ghost use Rattle.array_type.specs.crash_views_Regions.{DoWithout};
+ghost use Rattle.array_type.specs.array_call_specs_Calls.{AreSparesFewer, by_answer, AreStepsFewer, AreStepsKept, AreValuesKept, IsCausedBy};
+ghost use Rattle.array_type.specs.history_invariant_Recorded.{IsCallGoing};
+ghost use Rattle.array_type.specs.array_specs_Parts.{still_left};
+ghost use Rattle.array_type.specs.array_specs_Calls.{moving_world, IsStepTaken};
+ghost use Rattle.array_type.specs.array_specs_Plans.{ArePlansKept};
+ghost use Rattle.array_type.specs.array_fixed_laws_Steps.{IsStepped, IsClosable};
 ghost use Rattle.array_fixed_sync.specs.Resyncing.{is_at_end, next_kind, after_step, IsUnsynced};
 
 use crate::mending::{end_resync, resync_stripe};
-use array_fixed::{Bank, Fault, Still, Who};
+use array_type::{Bank, Fault, Array, Who};
 
 // Does the next step of the pending resync: mends its next stripe, or, where every stripe is mended, flushes the members and marks
 // the array clean. Refusals: `TooManyMissing`, and at a stripe `NotResynced`. It takes no memory.
-pub(crate) fn resync_step<B: Bank>(still: &mut Still<B>, who: Who) -> Result<(), Fault>
+pub(crate) fn resync_step<B: Bank>(still: &mut Array<B>, who: Who) -> Result<(), Fault>
     requires open { IsCallGoing still.old.parts.entries who }
     requires caller { who.caller ≢ 254 }
     requires pending { IsSome still.old.parts.work.resync }

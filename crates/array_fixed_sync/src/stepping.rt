@@ -1,40 +1,41 @@
 //! The next step of an array without a reshape.
 
-ghost use Rattle.std.specs.Prelude.{◌≡◌, ◌≢◌, ◌+◌, ◌<◌, ◌≤◌, is_some, if◌then◌else◌, Err, OnOk, OnErr, IsTrue};
-ghost use Rattle.array_fixed.specs.raid_types_the_Fault_TheVariants.{NoMemory as WantsMemory};
-ghost use Rattle.array_fixed.specs.sb_specs_Reading.{is_clean, list_length};
-ghost use Rattle.array_fixed.specs.stripe_row_Rows.{reading_of, present};
-ghost use Rattle.array_fixed.specs.history_World.{opening_list};
-ghost use Rattle.array_fixed.specs.history_Flat.{now};
-ghost use Rattle.array_fixed.specs.history_Sound.{OpensFit};
-ghost use Rattle.array_fixed.specs.history_the_StepKind_TheVariants.{RebuildTaken as TakesRole, RebuildEnded as EndsRebuild};
-ghost use Rattle.array_fixed.specs.array_members_Status.{left_of};
-ghost use Rattle.array_fixed.specs.array_members_Lacking.{AreHoldersFlushed, RowsStand};
-ghost use Rattle.array_fixed.specs.crash_views_Regions.{DoWithout};
-ghost use Rattle.array_fixed.specs.array_call_specs_Calls.{AreHeldOrSpare, IsWholeOrLost, by_answer, AreStepsFewer, AreStepsKept, AreValuesKept, IsCausedBy};
-ghost use Rattle.array_fixed.specs.history_invariant_Recorded.{IsCallGoing};
-ghost use Rattle.array_fixed.specs.array_specs_Parts.{still_left};
-ghost use Rattle.array_fixed.specs.array_specs_Calls.{moving_world};
-ghost use Rattle.array_fixed.specs.array_specs_Plans.{ArePlansKept};
-ghost use Rattle.array_fixed.specs.array_fixed_laws_Steps.{IsStepped, IsClosable, IsCallUnbroken};
+ghost use Rattle.std.specs.Prelude.{◌≡◌, ◌≢◌, ◌+◌, ◌<◌, ◌≤◌, is_some, if◌then◌else◌, Err, OnOk, OnErr, IsTrue, false};
+ghost use Rattle.array_type.specs.raid_types_the_Fault_TheVariants.{NoMemory as WantsMemory};
+ghost use Rattle.array_type.specs.sb_specs_Reading.{is_clean, list_length, is_reshaping};
+ghost use Rattle.array_type.specs.stripe_row_Rows.{reading_of, present};
+ghost use Rattle.array_type.specs.history_World.{opening_list};
+ghost use Rattle.array_type.specs.history_Flat.{now};
+ghost use Rattle.array_type.specs.history_Sound.{OpensFit};
+ghost use Rattle.array_type.specs.history_the_StepKind_TheVariants.{RebuildTaken as TakesRole, RebuildEnded as EndsRebuild};
+ghost use Rattle.array_type.specs.array_members_Status.{left_of};
+ghost use Rattle.array_type.specs.array_members_Lacking.{AreHoldersFlushed, RowsStand};
+ghost use Rattle.array_type.specs.crash_views_Regions.{DoWithout};
+ghost use Rattle.array_type.specs.array_call_specs_Calls.{AreHeldOrSpare, IsWholeOrLost, by_answer, AreStepsFewer, AreStepsKept, AreValuesKept, IsCausedBy};
+ghost use Rattle.array_type.specs.history_invariant_Recorded.{IsCallGoing};
+ghost use Rattle.array_type.specs.array_specs_Parts.{still_left};
+ghost use Rattle.array_type.specs.array_specs_Calls.{moving_world};
+ghost use Rattle.array_type.specs.array_specs_Plans.{ArePlansKept};
+ghost use Rattle.array_type.specs.array_fixed_laws_Steps.{IsStepped, IsClosable, IsCallUnbroken};
 ghost use Rattle.array_fixed_sync.specs.Resyncing.{is_at_end};
-ghost use Rattle.array_fixed.specs.Rebuilding.{rebuilt_role, IsGivenToSpare};
+ghost use Rattle.array_type.specs.Rebuilding.{rebuilt_role, IsGivenToSpare};
 ghost use Rattle.array_fixed_sync.specs.Stepping.{IsUndone, IsEnd, IsStepEntered, next_kind, after_step, IsHeldOrDue};
 
 use crate::rebuilding::rebuild_step;
 use crate::resyncing::resync_step;
-use array_fixed::{Bank, Fault, Still, Who};
+use array_type::{Bank, Fault, Array, Who};
 
 /// Does the next step of an array without a reshape, of which one is left besides those of the phases ahead: of the resync where one is
 /// pending, or else of a rebuild. Where the slot that is rebuilt is lost, only the loss is entered. Refusals: `TooManyMissing`, and at a
 /// stripe of a resync `NotResynced`. It takes no memory.
-pub fn still_step<B: Bank>(still: &mut Still<B>, who: Who) -> Result<(), Fault>
+pub fn still_step<B: Bank>(still: &mut Array<B>, who: Who) -> Result<(), Fault>
     requires open { IsCallGoing still.old.parts.entries who }
     requires unbroken { next_kind still.old.parts.work still.old.parts.members ≡ EndsRebuild → IsCallUnbroken B.tells (moving_world (B.given still.old.parts.bank) (B.tape still.old.parts.bank) still.old) still.old.parts.entries who }
     requires caller { who.caller ≢ 254 }
     requires pending { 0 < left_of still.old.parts.work still.old.parts.members }
     requires plans { ArePlansKept B.tells (moving_world (B.given still.old.parts.bank) (B.tape still.old.parts.bank) still.old) still.old }
     requires room { 1 ≤ still.old.parts.steps }
+    requires still { is_reshaping still.old.parts.members.newest ≡ false }
     ensures entered { IsStepEntered who still.old.parts.entries still.new.parts.entries still.old.parts.work still.old.parts.members still.new.parts.members (still_left still.new.parts.work still.new.parts.members still.new.ahead) result }
     ensures memory { result ≢ Err WantsMemory }
     ensures open { IsCallGoing still.new.parts.entries who }
@@ -53,6 +54,7 @@ pub fn still_step<B: Bank>(still: &mut Still<B>, who: Who) -> Result<(), Fault>
     ensures whole { OnOk result (next_kind still.old.parts.work still.old.parts.members ≡ EndsRebuild → IsWholeOrLost still.old.parts.members still.new.parts.members (rebuilt_role still.old.parts.members)) }
     ensures stepped { IsStepped B.tells (B.given still.old.parts.bank) (B.tape still.old.parts.bank) (B.tape still.new.parts.bank) (IsHeldOrDue still.old.parts.work still.old.parts.members) (B.faults_of still.old.parts.bank) (B.faults_of still.new.parts.bank) still.old still.new }
     ensures held { AreHeldOrSpare still.old.parts.members still.new.parts.members }
+    ensures still { is_reshaping still.new.parts.members.newest ≡ false }
     ensures given { B.given still.new.parts.bank ≡ B.given still.old.parts.bank }
 {
     if still.resync().is_some() {

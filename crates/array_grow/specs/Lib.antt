@@ -21,7 +21,7 @@ pub use Rattle.array_transition.specs.reshape_request_Asked
 pub use Rattle.array_transition.specs.array_reshaping_state_First
 pub use Rattle.array_transition.specs.array_reshaping_state_the_Due
 pub use Rattle.array_transition.specs.array_reshaping_state_the_Due_TheVariants
-pub use Rattle.array_transition.specs.array_reshaping_steps_Replies
+pub use Rattle.array_calls.specs.Replies as array_reshaping_steps_Replies
 pub use Rattle.array_transition.specs.stripe_region_resync_Left
 pub use Rattle.array_transition.specs.stripe_region_resync_Resyncs
 pub use Rattle.array_transition.specs.stripe_region_resync_the_Stripe

@@ -1,10 +1,11 @@
 //! Whether an array's backup can serve a reshape.
 
+ghost use Rattle.array_transition.specs.sb_specs_Reading.{is_reshaping};
 ghost use Rattle.std.specs.Prelude.{◌≡◌, ◌<◌, ◌≤◌, ℕ, true, false, length, Some, IfSome};
 ghost use Rattle.array_grow.specs.Plans.{IsAside};
 
 use array_reply_specs::{Bank, is_spare};
-use array_transition::{Members, Still, contains, holds_role};
+use array_transition::{Members, Array, contains, holds_role};
 
 // Whether the slot was found sound, holds no role and is no spare.
 fn is_aside(members: &Members, given: u32, slot: u32) -> bool
@@ -25,15 +26,17 @@ fn is_aside(members: &Members, given: u32, slot: u32) -> bool
 }
 
 /// Whether the array's backup, if there is one, was found sound, holds no role and is no spare; the array is as it was.
-pub fn can_back<B: Bank>(still: Still<B>) -> (Still<B>, bool)
+pub fn can_back<B: Bank>(still: Array<B>) -> (Array<B>, bool)
+    requires still { is_reshaping still.parts.members.newest ≡ false }
     ensures same { result.0 ≡ still }
     ensures yes { result.1 ≡ true → IfSome still.parts.backup (λ slot. IsAside still.parts.given still.parts.members slot) }
     ensures no { result.1 ≡ false → (slot : ℕ) × (still.parts.backup ≡ Some slot) × (slot < 32 → IsAside still.parts.given still.parts.members slot → ⊥) }
+    ensures still { is_reshaping result.0.parts.members.newest ≡ false }
 {
-    let pieces = still.take_apart();
+    let pieces = still.part_fixed();
     let can = match pieces.backup {
         None => true,
         Some(slot) => is_aside(&pieces.members, pieces.epoch.given, slot),
     };
-    (Still::of_pieces(pieces), can)
+    (Array::of_fixed(pieces), can)
 }

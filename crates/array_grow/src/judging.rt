@@ -12,7 +12,7 @@ ghost use Rattle.array_transition.specs.array_specs_Parts.{visible_in};
 ghost use Rattle.array_grow.specs.Planned.{asked_in};
 
 use array_reply_specs::{Bank, Refusal, Wish};
-use array_transition::{Members, PhasesLeft, Still, judge_grow};
+use array_transition::{Members, PhasesLeft, Array, judge_grow};
 
 // How many sectors the backup slot has; none where the bank has no such slot.
 fn backup_sectors<B: Bank>(bank: &B, backup: Option<u32>) -> Option<u64>
@@ -63,13 +63,15 @@ fn unplanned<B: Bank>(
 }
 
 /// The first reason why an array isn't planned to grow so, if there is one; the array is as it was.
-pub fn judge<B: Bank>(still: Still<B>, wish: &Wish) -> (Still<B>, Option<Refusal>)
+pub fn judge<B: Bank>(still: Array<B>, wish: &Wish) -> (Array<B>, Option<Refusal>)
+    requires still { is_reshaping still.parts.members.newest ≡ false }
     ensures same { result.0 ≡ still }
     ensures first { result.1 ≡ grow_refusal (asked_in (B.given still.parts.bank) still) wish.now }
     ensures visible { visible_of (list_length still.parts.members.newest) still.parts.entries ≡ visible_in still }
+    ensures still { is_reshaping result.0.parts.members.newest ≡ false }
 {
     let visible = still.visible();
-    let pieces = still.take_apart();
+    let pieces = still.part_fixed();
     let resync = pieces.work.resync;
     let refusal = unplanned(
         &pieces.bank,
@@ -80,5 +82,5 @@ pub fn judge<B: Bank>(still: Still<B>, wish: &Wish) -> (Still<B>, Option<Refusal
         visible,
         wish,
     );
-    (Still::of_pieces(pieces), refusal)
+    (Array::of_fixed(pieces), refusal)
 }

@@ -1,9 +1,9 @@
 //! A request to grow is planned, or refused.
 
-ghost use Rattle.std.specs.Prelude.{◌≡◌, ◌≢◌, ◌*◌, ◌≤◌, None, Some, length, OnOk, OnErr, IfOk, IfErr};
+ghost use Rattle.std.specs.Prelude.{◌≡◌, ◌≢◌, ◌*◌, ◌≤◌, None, Some, length, OnOk, OnErr, IfOk, IfErr, false};
 ghost use Rattle.array_reply_specs.specs.raid_types_the_Fault_TheVariants.{NoMemory as WantsMemory};
 ghost use Rattle.array_transition.specs.reshape_plan_Plans.{largest_window, phases};
-ghost use Rattle.array_transition.specs.sb_specs_Reading.{shape_of, list_length};
+ghost use Rattle.array_transition.specs.sb_specs_Reading.{shape_of, list_length, is_reshaping};
 ghost use Rattle.array_reply_specs.specs.history_Flat.{next_number, visible_of};
 ghost use Rattle.array_reply_specs.specs.history_the_Event_TheVariants.{Planned, Refused};
 ghost use Rattle.array_reply_specs.specs.array_call_specs_Calls.{OnNoMemory, IsEndOf};
@@ -16,7 +16,7 @@ ghost use Rattle.array_grow.specs.Plans.{GoesTo};
 
 use crate::judging::judge;
 use array_reply_specs::{Bank, Fault, Refusal, Who, Wish, append_entry, check_number};
-use array_transition::{Event, Still, all_left, plan_of, zeros};
+use array_transition::{Event, Array, all_left, plan_of, zeros};
 
 /// What a plan answers: how many steps are left, and a buffer for each of its windows.
 #[derive(Drop)]
@@ -26,44 +26,49 @@ pub struct PlannedGrow {
 }
 
 // A buffer for the largest window of the wish's plan; the array is as it was.
-fn window_for<B: Bank>(still: Still<B>, wish: &Wish) -> (Still<B>, Result<Vec<u8>, Fault>)
+fn window_for<B: Bank>(still: Array<B>, wish: &Wish) -> (Array<B>, Result<Vec<u8>, Fault>)
     requires taken { grow_refusal (asked_in (B.given still.parts.bank) still) wish.now ≡ None }
+    requires still { is_reshaping still.parts.members.newest ≡ false }
     ensures same { result.0 ≡ still }
     ensures no_memory { IfErr result.1 (λ fault. fault ≡ WantsMemory) }
     ensures wide { let m = still.parts.members in IfOk result.1 (λ v. 512 * largest_window (shape_of m.newest) m.newest.size (phases (shape_of m.newest) wish.now) ≤ length v.items) }
+    ensures still { is_reshaping result.0.parts.members.newest ≡ false }
 {
-    let pieces = still.take_apart();
+    let pieces = still.part_fixed();
     let plan = plan_of(&pieces.members, wish);
     let made = zeros(pieces.alloc, plan.window as usize * 512);
-    (Still::of_pieces(pieces), made)
+    (Array::of_fixed(pieces), made)
 }
 
 // Enters that it isn't planned, for this reason; there is room for it.
-fn enter_refusal<B: Bank>(still: Still<B>, who: Who, wish: &Wish, refusal: Refusal) -> Still<B>
+fn enter_refusal<B: Bank>(still: Array<B>, who: Who, wish: &Wish, refusal: Refusal) -> Array<B>
     requires next { who.number ≡ next_number who.caller still.parts.entries }
     requires caller { who.caller ≢ 254 }
     requires room { 1 ≤ still.parts.steps }
     requires why { grow_refusal (asked_in (B.given still.parts.bank) still) wish.now ≡ Some refusal }
+    requires still { is_reshaping still.parts.members.newest ≡ false }
     ensures reply { IsGrowReply B.tells (moving_world (B.given still.parts.bank) (B.tape still.parts.bank) still) (asked_in (B.given still.parts.bank) still) wish.now who still.parts.entries result.parts.entries (Refused refusal) }
     ensures as_before { IsAsBefore still result }
     ensures limit { result.limit ≡ still.limit }
     ensures ended { IsEndOf B.tells result.parts.first result.parts.entries (B.tape result.parts.bank) }
     ensures ahead { result.ahead ≡ still.ahead }
+    ensures still { is_reshaping result.parts.members.newest ≡ false }
 {
-    let mut pieces = still.take_apart();
+    let mut pieces = still.part_fixed();
     pieces.steps -= 1;
     check_number(&pieces.epoch.entries, who);
     let end = pieces.bank.ops();
     append_entry(&mut pieces.epoch, who, end, Event::Refused { refusal });
-    Still::of_pieces(pieces)
+    Array::of_fixed(pieces)
 }
 
 // Enters the plan, and tells its steps; there is room for it.
-fn enter_plan<B: Bank>(still: Still<B>, who: Who, wish: Wish) -> (Still<B>, u64)
+fn enter_plan<B: Bank>(still: Array<B>, who: Who, wish: Wish) -> (Array<B>, u64)
     requires next { who.number ≡ next_number who.caller still.parts.entries }
     requires caller { who.caller ≢ 254 }
     requires room { 1 ≤ still.parts.steps }
     requires taken { grow_refusal (asked_in (B.given still.parts.bank) still) wish ≡ None }
+    requires still { is_reshaping still.parts.members.newest ≡ false }
     ensures reply { IsGrowReply B.tells (moving_world (B.given still.parts.bank) (B.tape still.parts.bank) still) (asked_in (B.given still.parts.bank) still) wish who still.parts.entries result.0.parts.entries (Planned result.1 wish) }
     ensures as_before { IsAsBefore still result.0 }
     ensures limit { result.0.limit ≡ still.limit }
@@ -71,8 +76,9 @@ fn enter_plan<B: Bank>(still: Still<B>, who: Who, wish: Wish) -> (Still<B>, u64)
     ensures left { result.1 ≡ still_left result.0.parts.work result.0.parts.members result.0.ahead }
     ensures planned { IsGrowPlanned B.tells (B.given result.0.parts.bank) (moving_world (B.given result.0.parts.bank) (B.tape result.0.parts.bank) result.0) wish result.1 result.0 }
     ensures goes { GoesTo B.tells (moving_world (B.given result.0.parts.bank) (B.tape result.0.parts.bank) result.0) still result.0 }
+    ensures still { is_reshaping result.0.parts.members.newest ≡ false }
 {
-    let mut pieces = still.take_apart();
+    let mut pieces = still.part_fixed();
     let plan = plan_of(&pieces.members, &wish);
     pieces.steps -= 1;
     pieces.ahead = all_left(&plan);
@@ -80,7 +86,7 @@ fn enter_plan<B: Bank>(still: Still<B>, who: Who, wish: Wish) -> (Still<B>, u64)
     let end = pieces.bank.ops();
     let left = plan.steps;
     append_entry(&mut pieces.epoch, who, end, Event::Planned { left, wish });
-    (Still::of_pieces(pieces), left)
+    (Array::of_fixed(pieces), left)
 }
 
 /// Plans the grow that a wish asks for: its phases are ahead then, and the answer is how many steps are left, and a buffer for each
@@ -88,12 +94,13 @@ fn enter_plan<B: Bank>(still: Still<B>, who: Who, wish: Wish) -> (Still<B>, u64)
 /// `SameShape`, `BadShape`, `SizeNotMultiple`, `NeedSpares`, `NeedBackup`, `BackupTooSmall` and `ArraySizeFirst`. Want of memory
 /// changes nothing.
 pub fn plan_grow<B: Bank>(
-    still: Still<B>,
+    still: Array<B>,
     who: Who,
     wish: Wish,
-) -> (Still<B>, Result<PlannedGrow, Fault>)
+) -> (Array<B>, Result<PlannedGrow, Fault>)
     requires next { who.number ≡ next_number who.caller still.parts.entries }
     requires caller { who.caller ≢ 254 }
+    requires still { is_reshaping still.parts.members.newest ≡ false }
     ensures answered { IsGrowAnswered B.tells (moving_world (B.given still.parts.bank) (B.tape still.parts.bank) still) (asked_in (B.given still.parts.bank) still) wish who still.parts.entries result.0.parts.entries
         (Planned (still_left result.0.parts.work result.0.parts.members result.0.ahead) wish) result.1 }
     ensures visible { visible_of (list_length still.parts.members.newest) still.parts.entries ≡ visible_in still }
@@ -107,6 +114,7 @@ pub fn plan_grow<B: Bank>(
     ensures goes { OnOk result.1 (GoesTo B.tells (moving_world (B.given result.0.parts.bank) (B.tape result.0.parts.bank) result.0) still result.0) }
     ensures left { IfOk result.1 (λ plan. plan.left ≡ still_left result.0.parts.work result.0.parts.members result.0.ahead) }
     ensures wide { let m = still.parts.members in IfOk result.1 (λ plan. 512 * largest_window (shape_of m.newest) m.newest.size (phases_of result.0.ahead) ≤ length plan.window.items) }
+    ensures still { is_reshaping result.0.parts.members.newest ≡ false }
 {
     let (mut still, refusal) = judge(still, &wish);
     if let Some(refusal) = refusal {

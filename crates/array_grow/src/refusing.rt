@@ -16,15 +16,14 @@ ghost use Rattle.array_reply_specs.specs.array_specs_Visible.{IsLimitedAs};
 ghost use Rattle.array_grow.specs.Planned.{asked_in, IsJudged, IsGrowJudged, IsReplyTo, IsReplied, IsRefusedInReshape, IsGrowAnswered, IsAsBefore};
 
 use crate::planning::PlannedGrow;
-use array_reply_specs::{
-    Bank, BusyKind, Fault, NoMemory, Refusal, Who, Wish, append_entry, check_number,
-};
-use array_transition::{Event, Moving};
+use array_reply_specs::{Bank, BusyKind, Fault, NoMemory, Refusal, Who, Wish, append_entry, check_number};
+use array_transition::{Event, Array};
 
 // Enters that a request is refused for the reshape. Want of memory changes nothing.
-fn enter_busy<B: Bank>(moving: Moving<B>, who: Who) -> (Moving<B>, Result<(), NoMemory>)
+fn enter_busy<B: Bank>(moving: Array<B>, who: Who) -> (Array<B>, Result<(), NoMemory>)
     requires next { who.number ≡ next_number who.caller moving.parts.entries }
     requires caller { who.caller ≢ 254 }
+    requires active { is_reshaping moving.parts.members.newest ≡ true }
     ensures reply { OnOk result.1 ((request : Request) → IsRefusedInReshape request
         → IsReplyTo B.tells (moving_world (B.given moving.parts.bank) (B.tape moving.parts.bank) moving) (length (phases_of moving.ahead)) moving.parts.members request who moving.parts.entries result.0.parts.entries (Refused (Busy Reshape))) }
     ensures unchanged { OnErr result.1 (result.0 ≡ moving) }
@@ -32,15 +31,16 @@ fn enter_busy<B: Bank>(moving: Moving<B>, who: Who) -> (Moving<B>, Result<(), No
     ensures active { is_reshaping moving.parts.members.newest ≡ true }
     ensures ended { IsEndOf B.tells result.0.parts.first result.0.parts.entries (B.tape result.0.parts.bank) }
     ensures visible { visible_of (list_length moving.parts.members.newest) moving.parts.entries ≡ visible_in moving }
+    ensures stays_active { is_reshaping result.0.parts.members.newest ≡ true }
 {
-    let (mut pieces, course, window) = moving.take_apart();
+    let (mut pieces, course, window) = moving.part_reshaping();
     let Some(backup) = pieces.backup else {
         unreachable!()
     };
     match pieces.epoch.entries.make_room(2) {
         Ok(()) => {}
         Err(none) => {
-            let moving = Moving::of_pieces(pieces, backup, course, window);
+            let moving = Array::of_reshaping(pieces, backup, course, window);
             return (moving, Err(none));
         }
     }
@@ -49,19 +49,20 @@ fn enter_busy<B: Bank>(moving: Moving<B>, who: Who) -> (Moving<B>, Result<(), No
     let end = pieces.bank.ops();
     let refusal = Refusal::Busy(BusyKind::Reshape);
     append_entry(&mut pieces.epoch, who, end, Event::Refused { refusal });
-    let moving = Moving::of_pieces(pieces, backup, course, window);
+    let moving = Array::of_reshaping(pieces, backup, course, window);
     (moving, Ok(()))
 }
 
 /// Refuses to plan a grow of an array in a reshape, whichever is wished: `Busy` with the reshape. It makes no device call. Want of
 /// memory changes nothing.
 pub fn refuse_grow<B: Bank>(
-    moving: Moving<B>,
+    moving: Array<B>,
     who: Who,
     wish: &Wish,
-) -> (Moving<B>, Result<PlannedGrow, Fault>)
+) -> (Array<B>, Result<PlannedGrow, Fault>)
     requires next { who.number ≡ next_number who.caller moving.parts.entries }
     requires caller { who.caller ≢ 254 }
+    requires active { is_reshaping moving.parts.members.newest ≡ true }
     ensures answered { IsGrowAnswered B.tells (moving_world (B.given moving.parts.bank) (B.tape moving.parts.bank) moving) (asked_in (B.given moving.parts.bank) moving) wish.now who moving.parts.entries result.0.parts.entries
         (Refused (Busy Reshape)) result.1 }
     ensures visible { visible_of (list_length moving.parts.members.newest) moving.parts.entries ≡ visible_in moving }
@@ -72,6 +73,7 @@ pub fn refuse_grow<B: Bank>(
     ensures limit { result.0.limit ≡ moving.limit }
     ensures ended { IsEndOf B.tells result.0.parts.first result.0.parts.entries (B.tape result.0.parts.bank) }
     ensures ahead { result.0.ahead ≡ moving.ahead }
+    ensures active { is_reshaping result.0.parts.members.newest ≡ true }
 {
     let (moving, entered) = enter_busy(moving, who);
     match entered {
@@ -85,11 +87,12 @@ pub fn refuse_grow<B: Bank>(
 
 /// Refuses to limit the list of an array in a reshape: `Busy` with the reshape. It makes no device call. Want of memory changes nothing.
 pub fn refuse_limit<B: Bank>(
-    moving: Moving<B>,
+    moving: Array<B>,
     asked: (Who, Option<u64>),
-) -> (Moving<B>, Result<u64, Fault>)
+) -> (Array<B>, Result<u64, Fault>)
     requires next { asked.0.number ≡ next_number asked.0.caller moving.parts.entries }
     requires caller { asked.0.caller ≢ 254 }
+    requires active { is_reshaping moving.parts.members.newest ≡ true }
     ensures answered { IsReplied B.tells (moving_world (B.given moving.parts.bank) (B.tape moving.parts.bank) moving) (length (phases_of moving.ahead)) moving.parts.members (AsksVisible asked.1) asked.0 moving.parts.entries result.0.parts.entries
         (Refused (Busy Reshape)) result.1 }
     ensures refused { IsErr result.1 }
@@ -97,6 +100,7 @@ pub fn refuse_limit<B: Bank>(
     ensures unchanged { OnNoMemory result.1 (result.0 ≡ moving) }
     ensures limited { IsLimitedAs moving.limit moving result.0 }
     ensures ended { IsEndOf B.tells result.0.parts.first result.0.parts.entries (B.tape result.0.parts.bank) }
+    ensures active { is_reshaping result.0.parts.members.newest ≡ true }
 {
     let (moving, entered) = enter_busy(moving, asked.0);
     match entered {

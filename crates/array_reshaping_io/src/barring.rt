@@ -1,11 +1,11 @@
 //! Writes that touch an unsure window.
 
-ghost use Rattle.std.specs.Prelude.{◌≡◌, ◌≢◌, ◌+◌, ◌<◌, ◌≤◌, ◌^◌, ◌/◌, length, Err, IfSome, IsErr};
+ghost use Rattle.std.specs.Prelude.{◌≡◌, ◌≢◌, ◌+◌, ◌<◌, ◌≤◌, ◌^◌, ◌/◌, length, Err, IfSome, IsErr, true};
 ghost use Rattle.array_reshaping_steps.specs.raid_types_Sectors.{sectors_of};
 ghost use Rattle.array_reshaping_steps.specs.raid_types_the_Fault_TheVariants.{Refused as IsRefusedWith};
 ghost use Rattle.array_reshaping_steps.specs.raid_types_the_Refusal_TheVariants.{BackupFault};
 ghost use Rattle.array_reshaping_steps.specs.bank_Given.{IsFaulted};
-ghost use Rattle.array_reshaping_steps.specs.sb_specs_Reading.{list_length};
+ghost use Rattle.array_reshaping_steps.specs.sb_specs_Reading.{list_length, is_reshaping};
 ghost use Rattle.array_reshaping_steps.specs.history_Flat.{next_number};
 ghost use Rattle.array_reshaping_steps.specs.array_members_Lacking.{HaveRolesFailed};
 ghost use Rattle.array_reshaping_steps.specs.array_call_specs_Calls.{IsCausedBy, OnNoMemory};
@@ -17,18 +17,17 @@ ghost use Rattle.array_reshaping_steps.specs.array_reshaping_laws_Refusing.{firs
 ghost use Rattle.array_reshaping_steps.specs.array_reshaping_laws_Writing.{TouchesUnsure, IsWriteBarred, IsRefusedAlone, IsWriteEntered, IsWriteReplied};
 
 use crate::writing::unwritten_here;
-use array_reshaping_steps::{
-    Bank, Event, Fault, Moving, Who, append_entry, check_going, clear, open_span, relied_sector,
-};
+use array_reshaping_steps::{Bank, Event, Fault, Array, Who, append_entry, check_going, clear, open_span, relied_sector};
 
 // Refuses a write of so many sectors, of which some lie in an unsure window: for what speaks against a write beside it, or for the backup.
-fn refuse_write<B: Bank>(moving: &mut Moving<B>, who: Who, at: u64, count: u64) -> Result<(), Fault>
+fn refuse_write<B: Bank>(moving: &mut Array<B>, who: Who, at: u64, count: u64) -> Result<(), Fault>
     requires open { IsCallGoing moving.old.parts.entries who }
     requires caller { who.caller ≢ 254 }
     requires room { 1 ≤ moving.old.parts.steps }
     requires some { 0 < count }
     requires short { at + count < 2 ^ 63 }
     requires touches { TouchesUnsure moving.old.course.window at (at + count) }
+    requires active { is_reshaping moving.old.parts.members.newest ≡ true }
     ensures alone { IsRefusedAlone who moving.old.parts.entries moving.new.parts.entries result }
     ensures called { IsCalled B.tells (B.given moving.old.parts.bank) (B.tape moving.old.parts.bank) (B.tape moving.new.parts.bank) (B.faults_of moving.old.parts.bank) (B.faults_of moving.new.parts.bank) moving.old moving.new }
     ensures caused { IsCausedBy (visible_in moving.old) (at + count)
@@ -37,6 +36,7 @@ fn refuse_write<B: Bank>(moving: &mut Moving<B>, who: Who, at: u64, count: u64) 
     ensures members { moving.new.parts.members ≡ moving.old.parts.members }
     ensures backup { result ≡ Err (IsRefusedWith BackupFault) → IfSome moving.old.parts.backup (λ slot. IsFaulted slot (B.faults_of moving.old.parts.bank) (B.faults_of moving.new.parts.bank)) }
     ensures course { moving.new.course ≡ moving.old.course }
+    ensures active { is_reshaping moving.new.parts.members.newest ≡ true }
     ensures given { B.given moving.new.parts.bank ≡ B.given moving.old.parts.bank }
 {
     let window = open_span(&moving.course);
@@ -60,7 +60,7 @@ fn refuse_write<B: Bank>(moving: &mut Moving<B>, who: Who, at: u64, count: u64) 
 
 // Refuses a write of whose sectors some lie in an unsure window, once there is room for its entry.
 pub(crate) fn bar_write<B: Bank>(
-    moving: &mut Moving<B>,
+    moving: &mut Array<B>,
     who: Who,
     at: u64,
     from: &[u8],

@@ -1,9 +1,9 @@
 //! Reads of an array in a reshape.
 
-ghost use Rattle.std.specs.Prelude.{◌≡◌, ◌≢◌, ◌+◌, ◌-◌, ◌*◌, ◌/◌, ◌^◌, ◌<◌, ◌≤◌, length, None, IfSome, OnOk, OnErr};
+ghost use Rattle.std.specs.Prelude.{◌≡◌, ◌≢◌, ◌+◌, ◌-◌, ◌*◌, ◌/◌, ◌^◌, ◌<◌, ◌≤◌, length, None, IfSome, OnOk, OnErr, true};
 ghost use Rattle.array_reshaping_steps.specs.bank_Tape.{AreSectors};
 ghost use Rattle.array_reshaping_steps.specs.raid_types_Sectors.{IsWhole, sectors_of};
-ghost use Rattle.array_reshaping_steps.specs.sb_specs_Reading.{is_clean, list_length};
+ghost use Rattle.array_reshaping_steps.specs.sb_specs_Reading.{is_clean, list_length, is_reshaping};
 ghost use Rattle.array_reshaping_steps.specs.stripe_row_Rows.{present};
 ghost use Rattle.array_reshaping_steps.specs.history_World.{opening_list};
 ghost use Rattle.array_reshaping_steps.specs.history_Flat.{next_number, now};
@@ -20,11 +20,7 @@ ghost use Rattle.array_reshaping_steps.specs.array_specs_Calls.{moving_world, Is
 ghost use Rattle.array_reshaping_steps.specs.array_specs_Parts.{visible_in};
 ghost use Rattle.array_reshaping_steps.specs.array_reshaping_laws_Refusing.{first_refusal, IsFirstFor};
 
-use array_reshaping_steps::{
-    Bank, Event, Fault, Moving, Sectors, Span, Who, append_after_losses, append_entry,
-    backed_up_span, check_number, first_read_refusal_from, newly_unassigned, read_around_window,
-    relied_sector, unassigned_roles, visible, zeros,
-};
+use array_reshaping_steps::{Bank, Event, Fault, Array, Sectors, Span, Who, append_after_losses, append_entry, backed_up_span, check_number, first_read_refusal_from, newly_unassigned, read_around_window, relied_sector, unassigned_roles, visible, zeros};
 
 // How many bytes the sectors of this window have; none where there is none.
 fn bytes_of(hidden: Option<Span>, most: usize) -> usize
@@ -40,7 +36,7 @@ fn bytes_of(hidden: Option<Span>, most: usize) -> usize
 
 // Reads the list's sectors from `at` on, one or more, into `bytes` and then into `into`, where nothing speaks against it.
 fn read_some<B: Bank>(
-    moving: &mut Moving<B>,
+    moving: &mut Array<B>,
     who: Who,
     at: u64,
     mut bytes: Vec<u8>,
@@ -54,6 +50,7 @@ fn read_some<B: Bank>(
     requires same { length bytes.items ≡ length into.old }
     requires fine { IsRefusalOf (visible_in moving.old) (at + length into.old / 512) (IsUnreadAround (hidden_in moving.old.course.window)
         (relied_sector moving.old.parts.members.newest moving.old.parts.work.resync) at (at + length into.old / 512)) moving.old.parts.members None }
+    requires active { is_reshaping moving.old.parts.members.newest ≡ true }
     ensures answered { IsAnswered (list_length moving.old.parts.members.newest) (AsksRead at (length into.old / 512)) who moving.old.parts.entries moving.new.parts.entries (Read at (sectors_of into.new)) result }
     ensures holds { OnOk result (B.tells → IsReliable (moving_world (B.given moving.new.parts.bank) (B.tape moving.new.parts.bank) moving.new) moving.new.parts.entries
         → AreSectors (now (opening_list (moving_world (B.given moving.old.parts.bank) (B.tape moving.old.parts.bank) moving.old)) moving.old.parts.entries) at into.new) }
@@ -66,6 +63,7 @@ fn read_some<B: Bank>(
         (relied_sector moving.old.parts.members.newest moving.old.parts.work.resync) at (at + length into.old / 512)) moving.old.parts.members moving.new.parts.members result }
     ensures failed { HaveRolesFailed moving.old.parts.members moving.new.parts.members (B.faults_of moving.old.parts.bank) (B.faults_of moving.new.parts.bank) }
     ensures course { moving.new.course ≡ moving.old.course }
+    ensures active { is_reshaping moving.new.parts.members.newest ≡ true }
     ensures given { B.given moving.new.parts.bank ≡ B.given moving.old.parts.bank }
 {
     moving.steps -= 1;
@@ -104,7 +102,7 @@ fn read_some<B: Bank>(
 /// `TooManyMissing` where more roles are missing than a shape tolerates that places one of them, the first of these, and `NotResynced` where a resync is
 /// pending, of a missing role that has one of those others, in a stripe that isn't mended.
 pub fn read<B: Bank>(
-    moving: &mut Moving<B>,
+    moving: &mut Array<B>,
     who: Who,
     at: u64,
     into: &mut [u8],
@@ -113,6 +111,7 @@ pub fn read<B: Bank>(
     requires caller { who.caller ≢ 254 }
     requires whole { IsWhole into.old }
     requires short { at + length into.old / 512 < 2 ^ 63 }
+    requires active { is_reshaping moving.old.parts.members.newest ≡ true }
     ensures answered { IsAnswered (list_length moving.old.parts.members.newest) (AsksRead at (length into.old / 512)) who moving.old.parts.entries moving.new.parts.entries (Read at (sectors_of into.new)) result }
     ensures holds { OnOk result (B.tells → IsReliable (moving_world (B.given moving.new.parts.bank) (B.tape moving.new.parts.bank) moving.new) moving.new.parts.entries
         → AreSectors (now (opening_list (moving_world (B.given moving.old.parts.bank) (B.tape moving.old.parts.bank) moving.old)) moving.old.parts.entries) at into.new) }
@@ -126,6 +125,7 @@ pub fn read<B: Bank>(
     ensures first { IsFirstFor (first_refusal moving.old at (length into.old / 512)) result }
     ensures failed { HaveRolesFailed moving.old.parts.members moving.new.parts.members (B.faults_of moving.old.parts.bank) (B.faults_of moving.new.parts.bank) }
     ensures course { moving.new.course ≡ moving.old.course }
+    ensures active { is_reshaping moving.new.parts.members.newest ≡ true }
     ensures given { B.given moving.new.parts.bank ≡ B.given moving.old.parts.bank }
 {
     let mut bytes = match zeros(moving.alloc, into.len()) {

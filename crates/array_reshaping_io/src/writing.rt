@@ -1,11 +1,11 @@
 //! Writes to an array in a reshape.
 
-ghost use Rattle.std.specs.Prelude.{◌≡◌, ◌≢◌, ◌⊎◌, ◌+◌, ◌/◌, ◌^◌, ◌<◌, ◌≤◌, ℕ, length, false, Some, Err, IfSome, MatchOption, OnOk, ⊤};
+ghost use Rattle.std.specs.Prelude.{◌≡◌, ◌≢◌, ◌⊎◌, ◌+◌, ◌/◌, ◌^◌, ◌<◌, ◌≤◌, ℕ, length, false, Some, Err, IfSome, MatchOption, OnOk, ⊤, true};
 ghost use Rattle.array_reshaping_steps.specs.raid_types_Sectors.{IsWhole, sectors_of};
 ghost use Rattle.array_reshaping_steps.specs.raid_types_the_Fault_TheVariants.{Refused as IsRefusedWith};
 ghost use Rattle.array_reshaping_steps.specs.raid_types_the_Refusal_TheVariants.{BackupFault};
 ghost use Rattle.array_reshaping_steps.specs.bank_Given.{IsFaulted};
-ghost use Rattle.array_reshaping_steps.specs.sb_specs_Reading.{is_clean, list_length, role_count};
+ghost use Rattle.array_reshaping_steps.specs.sb_specs_Reading.{is_clean, list_length, role_count, is_reshaping};
 ghost use Rattle.array_reshaping_steps.specs.stripe_row_Rows.{present};
 ghost use Rattle.array_reshaping_steps.specs.history_Flat.{next_number};
 ghost use Rattle.array_reshaping_steps.specs.history_Stands.{covers};
@@ -28,12 +28,7 @@ ghost use Rattle.array_reshaping_steps.specs.array_reshaping_laws_Refusing.{firs
 ghost use Rattle.array_reshaping_steps.specs.array_reshaping_laws_Writing.{IsWindowOpen, TouchesWindow, IsWriteLacked, IsWriteBarred, IsPutEntered, IsWriteEntered, IsWriteAnswered, IsWriteReplied};
 
 use crate::barring::bar_write;
-use array_reshaping_steps::{
-    Bank, Event, Fault, Members, Moving, Refusal, Sectors, Span, Who, append_after_losses,
-    append_entry, append_failure, check_going, finish_open, first_write_refusal_from, meets,
-    newly_unassigned, open_span, relied_sector, unassigned_roles, uncertain_span, visible,
-    write_list,
-};
+use array_reshaping_steps::{Bank, Event, Fault, Members, Array, Refusal, Sectors, Span, Who, append_after_losses, append_entry, append_failure, check_going, finish_open, first_write_refusal_from, meets, newly_unassigned, open_span, relied_sector, unassigned_roles, uncertain_span, visible, write_list};
 
 // Why so many sectors from one on aren't written, before any row is read, where those below the limit are visible and parity is to be relied
 // on up to sector `relied`, and in the window, if there is one.
@@ -59,7 +54,7 @@ pub(crate) fn unwritten_here(
 // Puts the sectors of `from`, 1 to 128, into the list from `at` on, none of them in the window under way; `body` has the same. They
 // may lie in `past`, a window that was just recorded.
 fn write_beside<B: Bank>(
-    moving: &mut Moving<B>,
+    moving: &mut Array<B>,
     who: Who,
     at: u64,
     from: &[u8],
@@ -76,6 +71,7 @@ fn write_beside<B: Bank>(
     requires body { body ≡ sectors_of from.now }
     requires beside { (x : ℕ) → at ≤ x → x < at + length from.now / 512 → covers (span_in moving.old.course.window) x ≡ false }
     requires stood { B.tells → IsWindowStanding past (moving_world (B.given moving.old.parts.bank) (B.tape moving.old.parts.bank) moving.old) moving.old.parts.entries moving.old.parts.members (present (B.given moving.old.parts.bank) (B.tape moving.old.parts.bank)) }
+    requires active { is_reshaping moving.old.parts.members.newest ≡ true }
     ensures entered { IsPutEntered who moving.old.parts.entries moving.new.parts.entries at (sectors_of from.now) result }
     ensures called { IsCalled B.tells (B.given moving.old.parts.bank) (B.tape moving.old.parts.bank) (B.tape moving.new.parts.bank) (B.faults_of moving.old.parts.bank) (B.faults_of moving.new.parts.bank) moving.old moving.new }
     ensures caused { IsCausedBy (visible_in moving.old) (at + length from.now / 512) (IsListUnwritten past (relied_sector moving.old.parts.members.newest moving.old.parts.work.resync) at (at + length from.now / 512))
@@ -85,6 +81,7 @@ fn write_beside<B: Bank>(
     ensures dirty { OnOk result (is_clean moving.new.parts.members.newest ≡ false) }
     ensures left { left_in moving.new.parts.work moving.new.parts.members moving.new.course moving.new.ahead ≡ left_in moving.old.parts.work moving.old.parts.members moving.old.course moving.old.ahead }
     ensures course { moving.new.course ≡ moving.old.course }
+    ensures active { is_reshaping moving.new.parts.members.newest ≡ true }
     ensures given { B.given moving.new.parts.bank ≡ B.given moving.old.parts.bank }
 {
     moving.steps -= 1;
@@ -132,13 +129,14 @@ fn write_beside<B: Bank>(
 }
 
 // Finishes the open window, where nothing speaks against a write of so many sectors, of which some lie in it.
-fn finish_for<B: Bank>(moving: &mut Moving<B>, who: Who, at: u64, count: u64) -> Result<(), Fault>
+fn finish_for<B: Bank>(moving: &mut Array<B>, who: Who, at: u64, count: u64) -> Result<(), Fault>
     requires open { IsCallGoing moving.old.parts.entries who }
     requires caller { who.caller ≢ 254 }
     requires room { 1 ≤ moving.old.parts.steps }
     requires some { 0 < count }
     requires short { at + count < 2 ^ 63 }
     requires due { IsWindowOpen moving.old }
+    requires active { is_reshaping moving.old.parts.members.newest ≡ true }
     ensures entered { IsStepTaken who moving.old.parts.entries moving.new.parts.entries FinishesWindow (left_in moving.new.parts.work moving.new.parts.members moving.new.course moving.new.ahead) result }
     ensures goes { OnOk result (IsCallGoing moving.new.parts.entries who) }
     ensures called { IsCalled B.tells (B.given moving.old.parts.bank) (B.tape moving.old.parts.bank) (B.tape moving.new.parts.bank) (B.faults_of moving.old.parts.bank) (B.faults_of moving.new.parts.bank) moving.old moving.new }
@@ -150,6 +148,7 @@ fn finish_for<B: Bank>(moving: &mut Moving<B>, who: Who, at: u64, count: u64) ->
     ensures relied { OnOk result (relied_sector moving.new.parts.members.newest moving.new.parts.work.resync ≡ relied_sector moving.old.parts.members.newest moving.old.parts.work.resync) }
     ensures stood { OnOk result (B.tells → IsWindowStanding (open_in moving.old.course.window) (moving_world (B.given moving.new.parts.bank) (B.tape moving.new.parts.bank) moving.new) moving.new.parts.entries moving.new.parts.members (present (B.given moving.new.parts.bank) (B.tape moving.new.parts.bank))) }
     ensures room { moving.new.parts.steps + 1 ≡ moving.old.parts.steps }
+    ensures active { is_reshaping moving.new.parts.members.newest ≡ true }
     ensures given { B.given moving.new.parts.bank ≡ B.given moving.old.parts.bank }
 {
     let window = open_span(&moving.course);
@@ -172,7 +171,7 @@ fn finish_for<B: Bank>(moving: &mut Moving<B>, who: Who, at: u64, count: u64) ->
 }
 
 // Makes the list hold `from` from `at` on, where none of its sectors lies in an unsure window.
-fn write_sure<B: Bank>(moving: &mut Moving<B>, who: Who, at: u64, from: &[u8]) -> Result<(), Fault>
+fn write_sure<B: Bank>(moving: &mut Array<B>, who: Who, at: u64, from: &[u8]) -> Result<(), Fault>
     requires next { who.number ≡ next_number who.caller moving.old.parts.entries }
     requires caller { who.caller ≢ 254 }
     requires whole { IsWhole from.now }
@@ -180,6 +179,7 @@ fn write_sure<B: Bank>(moving: &mut Moving<B>, who: Who, at: u64, from: &[u8]) -
     requires few { length from.now / 512 ≤ 128 }
     requires short { at + length from.now / 512 < 2 ^ 63 }
     requires sure { (x : ℕ) → at ≤ x → x < at + length from.now / 512 → covers (unsure_in moving.old.course.window) x ≡ false }
+    requires active { is_reshaping moving.old.parts.members.newest ≡ true }
     ensures answered { IsWriteAnswered (list_length moving.old.parts.members.newest) at (sectors_of from.now) who moving.old.parts.entries moving.new.parts.entries result }
     ensures entered { IsWriteEntered moving.old.course.window at (at + length from.now / 512) (sectors_of from.now) who moving.old.parts.entries moving.new.parts.entries (left_in moving.new.parts.work moving.new.parts.members moving.new.course moving.new.ahead) result }
     ensures unchanged { OnNoMemory result (moving.new ≡ moving.old) }
@@ -191,6 +191,7 @@ fn write_sure<B: Bank>(moving: &mut Moving<B>, who: Who, at: u64, from: &[u8]) -
     ensures dirty { OnOk result (is_clean moving.new.parts.members.newest ≡ false) }
     ensures course { (TouchesWindow moving.old.course.window at (at + length from.now / 512) → ⊥) → moving.new.course ≡ moving.old.course }
     ensures closed { OnOk result (TouchesWindow moving.old.course.window at (at + length from.now / 512) → moving.new.course ≡ closed 0) }
+    ensures active { is_reshaping moving.new.parts.members.newest ≡ true }
     ensures given { B.given moving.new.parts.bank ≡ B.given moving.old.parts.bank }
 {
     let body = match Sectors::copy_of(moving.alloc, from) {
@@ -218,13 +219,14 @@ fn write_sure<B: Bank>(moving: &mut Moving<B>, who: Who, at: u64, from: &[u8]) -
 /// Refusals: `PastEnd`, `TooManyMissing` where more roles of the shape of one of them are missing than it tolerates, or, where
 /// the window has to be finished, of either shape, `BackupFault` where some lie in an unsure window, and `NotResynced` where a resync is pending, of a missing role that has data in the
 /// shape of one of them that lies outside the open window, in a stripe that isn't mended.
-pub fn write<B: Bank>(moving: &mut Moving<B>, who: Who, at: u64, from: &[u8]) -> Result<(), Fault>
+pub fn write<B: Bank>(moving: &mut Array<B>, who: Who, at: u64, from: &[u8]) -> Result<(), Fault>
     requires next { who.number ≡ next_number who.caller moving.old.parts.entries }
     requires caller { who.caller ≢ 254 }
     requires whole { IsWhole from.now }
     requires some { 0 < length from.now / 512 }
     requires few { length from.now / 512 ≤ 128 }
     requires short { at + length from.now / 512 < 2 ^ 63 }
+    requires active { is_reshaping moving.old.parts.members.newest ≡ true }
     ensures answered { IsWriteReplied (list_length moving.old.parts.members.newest) at (sectors_of from.now) who moving.old.parts.entries moving.new.parts.entries result }
     ensures entered { IsWriteEntered moving.old.course.window at (at + length from.now / 512) (sectors_of from.now) who moving.old.parts.entries moving.new.parts.entries (left_in moving.new.parts.work moving.new.parts.members moving.new.course moving.new.ahead) result }
     ensures unchanged { OnNoMemory result (moving.new ≡ moving.old) }
@@ -237,6 +239,7 @@ pub fn write<B: Bank>(moving: &mut Moving<B>, who: Who, at: u64, from: &[u8]) ->
     ensures dirty { OnOk result (is_clean moving.new.parts.members.newest ≡ false) }
     ensures course { (TouchesWindow moving.old.course.window at (at + length from.now / 512) → ⊥) → moving.new.course ≡ moving.old.course }
     ensures closed { OnOk result (TouchesWindow moving.old.course.window at (at + length from.now / 512) → moving.new.course ≡ closed 0) }
+    ensures active { is_reshaping moving.new.parts.members.newest ≡ true }
     ensures given { B.given moving.new.parts.bank ≡ B.given moving.old.parts.bank }
 {
     let count = (from.len() / 512) as u64;

@@ -2,8 +2,8 @@
 use Rattle.std.proofs.Common.{◌≡◌, ℕ, List, sym, subst}
 use Rattle.array_fixed_invariant.specs.bank_the_Operation.{Operation}
 use Rattle.array_fixed_invariant.specs.bank_Given.{Given}
-use Rattle.array_reshaping.specs.array_specs_Parts.{RunningParts}
-use Rattle.array_reshaping.specs.array_specs_Calls.{IsCalled}
+use Rattle.array_type.specs.array_specs_Parts.{RunningParts}
+use Rattle.array_type.specs.array_specs_Calls.{IsCalled}
 
 pub called-as : {B : Type 0} {tells : Type 0} (given : B → Given) (tape : B → List Operation) (faults : B → ℕ → ℕ) (old new old' new' : RunningParts B) → old ≡ old' → new ≡ new'
     → IsCalled tells (given old'.parts.bank) (tape old'.parts.bank) (tape new'.parts.bank) (faults old'.parts.bank) (faults new'.parts.bank) old' new'

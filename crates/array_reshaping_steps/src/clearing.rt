@@ -1,25 +1,27 @@
 //! An unsure window: the header of its section is tried again.
 
-ghost use Rattle.std.specs.Prelude.{◌≡◌, ◌≢◌, ◌+◌, ◌<◌, ◌≤◌, Err, IfSome};
+ghost use Rattle.array_fixed_invariant.specs.sb_specs_Reading.{is_reshaping};
+ghost use Rattle.std.specs.Prelude.{◌≡◌, ◌≢◌, ◌+◌, ◌<◌, ◌≤◌, Err, IfSome, true};
 ghost use Rattle.array_fixed_invariant.specs.raid_types_the_Fault_TheVariants.{Refused as IsRefusedWith};
 ghost use Rattle.array_fixed_invariant.specs.raid_types_the_Refusal_TheVariants.{BackupFault};
 ghost use Rattle.array_fixed_invariant.specs.raid_types_the_Span.{Span};
 ghost use Rattle.array_fixed_invariant.specs.bank_Given.{IsFaulted};
-ghost use Rattle.array_reshaping.specs.reshape_request_the_Window_TheVariants.{Unsure as IsUnsureWindow};
-ghost use Rattle.array_reshaping.specs.history_invariant_Recorded.{IsCallGoing};
-ghost use Rattle.array_reshaping.specs.array_specs_Calls.{IsCalled};
-ghost use Rattle.array_reshaping.specs.array_reshaping_laws_Writing.{IsRefusedAlone};
+ghost use Rattle.array_type.specs.reshape_request_the_Window_TheVariants.{Unsure as IsUnsureWindow};
+ghost use Rattle.array_fixed_invariant.specs.history_invariant_Recorded.{IsCallGoing};
+ghost use Rattle.array_type.specs.array_specs_Calls.{IsCalled};
+ghost use Rattle.array_type.specs.array_reshaping_laws_Writing.{IsRefusedAlone};
 
 use array_fixed_invariant::{Fault, Refusal, Who, append_entry};
-use array_reshaping::{Bank, Event, Moving, check_going, clear_window};
+use array_type::{Bank, Event, Array, check_going, clear_window};
 
 /// Tries to make the header of an unsure window plain. It is refused `BackupFault`, and nothing is written: the backup failed when the
 /// header was written, and a slot that failed once fails again.
-pub fn clear<B: Bank>(moving: &mut Moving<B>, who: Who) -> Result<(), Fault>
+pub fn clear<B: Bank>(moving: &mut Array<B>, who: Who) -> Result<(), Fault>
     requires open { IsCallGoing moving.old.parts.entries who }
     requires caller { who.caller ≢ 254 }
     requires room { 1 ≤ moving.old.parts.steps }
     requires unsure { (span : Span) × (moving.old.course.window ≡ IsUnsureWindow span) }
+    requires active { is_reshaping moving.old.parts.members.newest ≡ true }
     ensures refused { result ≡ Err (IsRefusedWith BackupFault) }
     ensures alone { IsRefusedAlone who moving.old.parts.entries moving.new.parts.entries result }
     ensures called { IsCalled B.tells (B.given moving.old.parts.bank) (B.tape moving.old.parts.bank) (B.tape moving.new.parts.bank) (B.faults_of moving.old.parts.bank) (B.faults_of moving.new.parts.bank) moving.old moving.new }
@@ -27,6 +29,7 @@ pub fn clear<B: Bank>(moving: &mut Moving<B>, who: Who) -> Result<(), Fault>
     ensures backup { IfSome moving.old.parts.backup (λ slot. IsFaulted slot (B.faults_of moving.old.parts.bank) (B.faults_of moving.new.parts.bank)) }
     ensures course { moving.new.course ≡ moving.old.course }
     ensures room { moving.new.parts.steps + 1 ≡ moving.old.parts.steps }
+    ensures active { is_reshaping moving.new.parts.members.newest ≡ true }
     ensures given { B.given moving.new.parts.bank ≡ B.given moving.old.parts.bank }
 {
     moving.steps -= 1;

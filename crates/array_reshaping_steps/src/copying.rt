@@ -1,35 +1,32 @@
 //! The steps of a reshape between its begin and its end.
 
-ghost use Rattle.std.specs.Prelude.{◌≡◌, ◌≢◌, ◌+◌, ◌-◌, ◌*◌, ◌<◌, ◌≤◌, ℕ, Bool, length, take, None, Some, MatchOption, OnOk, OnErr, ⊤};
+ghost use Rattle.std.specs.Prelude.{◌≡◌, ◌≢◌, ◌+◌, ◌-◌, ◌*◌, ◌<◌, ◌≤◌, ℕ, Bool, length, take, None, Some, MatchOption, OnOk, OnErr, ⊤, true};
 ghost use Rattle.array_fixed_invariant.specs.raid_types_Sectors.{Sector};
 ghost use Rattle.array_fixed_invariant.specs.raid_types_the_Span.{Span};
 ghost use Rattle.array_fixed_invariant.specs.bank_Tape.{disk};
-ghost use Rattle.array_reshaping.specs.sb_specs_Reading.{is_clean, final_shape, list_length, next_window};
+ghost use Rattle.array_fixed_invariant.specs.sb_specs_Reading.{is_clean, final_shape, list_length, next_window, is_reshaping};
 ghost use Rattle.array_fixed_invariant.specs.stripe_row_Rows.{present, reading_of};
-ghost use Rattle.array_reshaping.specs.stripe_list_Full.{RowStands};
+ghost use Rattle.array_fixed_invariant.specs.stripe_list_Full.{RowStands};
 ghost use Rattle.array_fixed_invariant.specs.history_World.{World};
 ghost use Rattle.array_fixed_invariant.specs.history_the_StepKind_TheVariants.{Copied as CopiesStripe};
-ghost use Rattle.array_reshaping.specs.crash_views_Views.{Ledger};
-ghost use Rattle.array_reshaping.specs.crash_views_Windows.{IsCopyable};
-ghost use Rattle.array_reshaping.specs.crash_safety_laws_Safety.{HasRoomLeft, IsRisen};
-ghost use Rattle.array_reshaping.specs.crash_safety_laws_Steady.{IsSafeOver, KeepsSafe, AreGoneTold, IsUncleanTold};
+ghost use Rattle.array_fixed_invariant.specs.crash_views_Views.{Ledger};
+ghost use Rattle.array_fixed_invariant.specs.crash_views_Windows.{IsCopyable};
+ghost use Rattle.array_fixed_invariant.specs.crash_safety_laws_Safety.{HasRoomLeft, IsRisen};
+ghost use Rattle.array_fixed_invariant.specs.crash_safety_laws_Steady.{IsSafeOver, KeepsSafe, AreGoneTold, IsUncleanTold};
 ghost use Rattle.array_fixed_invariant.specs.array_members_Moving.{IsMoved};
-ghost use Rattle.array_reshaping.specs.array_members_Lacking.{AreLostSince, AreTooMany, AreOtherRowsKept, IsOfStripe};
-ghost use Rattle.array_reshaping.specs.sb_safe_updates_Unused.{IsUnusedKept};
+ghost use Rattle.array_fixed_invariant.specs.array_members_Lacking.{AreLostSince, AreTooMany, AreOtherRowsKept, IsOfStripe};
+ghost use Rattle.array_fixed_invariant.specs.sb_safe_updates_Unused.{IsUnusedKept};
 ghost use Rattle.array_fixed_invariant.specs.reshape_request_Left.{stripes_in};
-ghost use Rattle.array_reshaping.specs.reshape_window_rows_Copies.{tail_of, IsCopied};
-ghost use Rattle.array_reshaping.specs.reshape_progress_Laws.{entered, next_stripe};
-ghost use Rattle.array_reshaping.specs.array_call_specs_Calls.{IsCausedBy};
-ghost use Rattle.array_reshaping.specs.history_invariant_Recorded.{IsCallGoing};
-ghost use Rattle.array_reshaping.specs.array_specs_Parts.{left_in};
-ghost use Rattle.array_reshaping.specs.array_specs_Calls.{IsCalled, IsStepTaken, IsCopyDue};
-ghost use Rattle.array_reshaping.specs.sb_safe_updates_Frame.{Stands, GoesOn};
+ghost use Rattle.array_type.specs.reshape_window_rows_Copies.{tail_of, IsCopied};
+ghost use Rattle.array_fixed_invariant.specs.reshape_progress_Laws.{entered, next_stripe};
+ghost use Rattle.array_fixed_invariant.specs.array_call_specs_Calls.{IsCausedBy};
+ghost use Rattle.array_fixed_invariant.specs.history_invariant_Recorded.{IsCallGoing};
+ghost use Rattle.array_type.specs.array_specs_Parts.{left_in};
+ghost use Rattle.array_type.specs.array_specs_Calls.{IsCalled, IsStepTaken, IsCopyDue};
+ghost use Rattle.array_type.specs.sb_safe_updates_Frame.{Stands, GoesOn};
 
 use array_fixed_invariant::{Fault, Refusal, Span, Who, append_after_losses, append_entry};
-use array_reshaping::{
-    Bank, Event, Members, Moving, StepKind, Window, all_left, check_going, copy, final_in,
-    newly_unassigned, stripe_to_copy, too_many, unassigned_roles,
-};
+use array_type::{Bank, Event, Members, Array, StepKind, Window, left_in_reshape, check_going, copy, final_in, newly_unassigned, stripe_to_copy, too_many, unassigned_roles};
 
 // The roles and the spares that were lost in a step, and why it wasn't done.
 #[derive(Clone, Copy)]
@@ -93,11 +90,12 @@ fn copy_next<B: Bank>(
 }
 
 /// A step of the reshape: the next stripe of the open window is copied. Refusals: `TooManyMissing`. It takes no memory.
-pub fn copy_stripe<B: Bank>(moving: &mut Moving<B>, who: Who) -> Result<(), Fault>
+pub fn copy_stripe<B: Bank>(moving: &mut Array<B>, who: Who) -> Result<(), Fault>
     requires open { IsCallGoing moving.old.parts.entries who }
     requires caller { who.caller ≢ 254 }
     requires room { 1 ≤ moving.old.parts.steps }
     requires due { IsCopyDue moving.old }
+    requires active { is_reshaping moving.old.parts.members.newest ≡ true }
     ensures entered { IsStepTaken who moving.old.parts.entries moving.new.parts.entries CopiesStripe (left_in moving.new.parts.work moving.new.parts.members moving.new.course moving.new.ahead) result }
     ensures called { IsCalled B.tells (B.given moving.old.parts.bank) (B.tape moving.old.parts.bank) (B.tape moving.new.parts.bank) (B.faults_of moving.old.parts.bank) (B.faults_of moving.new.parts.bank) moving.old moving.new }
     ensures clean { is_clean moving.new.parts.members.newest ≡ is_clean moving.old.parts.members.newest }
@@ -106,6 +104,7 @@ pub fn copy_stripe<B: Bank>(moving: &mut Moving<B>, who: Who) -> Result<(), Faul
     ensures copied { OnOk result ((span : Span) → (copied : ℕ) → (sectioned : Bool) → moving.old.course ≡ entered span copied sectioned → moving.new.course ≡ entered span (copied + 1) sectioned) }
     ensures course { OnErr result (moving.new.course ≡ moving.old.course) }
     ensures room { moving.new.parts.steps + 1 ≡ moving.old.parts.steps }
+    ensures active { is_reshaping moving.new.parts.members.newest ≡ true }
     ensures given { B.given moving.new.parts.bank ≡ B.given moving.old.parts.bank }
 {
     moving.steps -= 1;
@@ -150,7 +149,7 @@ pub fn copy_stripe<B: Bank>(moving: &mut Moving<B>, who: Who) -> Result<(), Faul
         sectioned,
     };
     let kind = StepKind::Copied;
-    let left = all_left(&moving.members, &moving.work, &moving.course, &moving.ahead);
+    let left = left_in_reshape(&moving.members, &moving.work, &moving.course, &moving.ahead);
     let event = Event::Step { kind, left };
     append_after_losses(
         &mut moving.epoch,

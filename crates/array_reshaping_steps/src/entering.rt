@@ -3,22 +3,19 @@
 ghost use Rattle.std.specs.Prelude.{◌≡◌, ◌≢◌, ◌⊎◌, ◌+◌, ◌≤◌, true, false, length, OnOk, OnErr};
 ghost use Rattle.array_fixed_invariant.specs.raid_types_the_Refusal.{Refusal as AnyRefusal};
 ghost use Rattle.array_fixed_invariant.specs.raid_types_the_Span.{Span as AnySpan};
-ghost use Rattle.array_reshaping.specs.sb_specs_Reading.{is_clean, role_count};
-ghost use Rattle.array_reshaping.specs.sb_specs_Verdict.{AreValidShapes};
+ghost use Rattle.array_fixed_invariant.specs.sb_specs_Reading.{is_clean, role_count, is_reshaping};
+ghost use Rattle.array_type.specs.sb_specs_Verdict.{AreValidShapes};
 ghost use Rattle.array_fixed_invariant.specs.history_the_StepKind_TheVariants.{Entered as EntersWindow};
-ghost use Rattle.array_reshaping.specs.crash_views_Regions.{DoWithout};
-ghost use Rattle.array_reshaping.specs.array_members_Lacking.{AreTooMany};
-ghost use Rattle.array_reshaping.specs.reshape_request_the_Window_TheVariants.{Unsure as IsUnsureWindow};
-ghost use Rattle.array_reshaping.specs.history_invariant_Recorded.{IsCallGoing};
-ghost use Rattle.array_reshaping.specs.array_specs_Parts.{left_in};
-ghost use Rattle.array_reshaping.specs.array_specs_Calls.{IsCalled, IsStepTaken, IsEnterDue, IsEnterCaused, IsNextOpen, IsNextUnsure};
+ghost use Rattle.array_fixed_invariant.specs.crash_views_Regions.{DoWithout};
+ghost use Rattle.array_fixed_invariant.specs.array_members_Lacking.{AreTooMany};
+ghost use Rattle.array_type.specs.reshape_request_the_Window_TheVariants.{Unsure as IsUnsureWindow};
+ghost use Rattle.array_fixed_invariant.specs.history_invariant_Recorded.{IsCallGoing};
+ghost use Rattle.array_type.specs.array_specs_Parts.{left_in};
+ghost use Rattle.array_type.specs.array_specs_Calls.{IsCalled, IsStepTaken, IsEnterDue, IsEnterCaused, IsNextOpen, IsNextUnsure};
 
 use crate::clearing::clear;
 use array_fixed_invariant::{Fault, Who, append_after_losses, append_entry};
-use array_reshaping::{
-    Bank, Course, Event, Members, Moving, StepKind, Window, all_left, check_going, enter_next,
-    is_window_critical, list_sectors, next_window_of, too_many,
-};
+use array_type::{Bank, Course, Event, Members, Array, StepKind, Window, left_in_reshape, check_going, enter_next, is_window_critical, list_sectors, next_window_of, too_many};
 
 // Whether a window is unsure, and no more roles are missing than the shapes in force tolerate.
 fn is_barred(members: &Members, course: &Course) -> bool
@@ -39,13 +36,14 @@ fn is_barred(members: &Members, course: &Course) -> bool
 }
 
 // Enters the next window, where none is unsure, or too many roles are missing anyway.
-fn enter_sure<B: Bank>(moving: &mut Moving<B>, who: Who) -> Result<(), Fault>
+fn enter_sure<B: Bank>(moving: &mut Array<B>, who: Who) -> Result<(), Fault>
     requires open { IsCallGoing moving.old.parts.entries who }
     requires caller { who.caller ≢ 254 }
     requires room { 1 ≤ moving.old.parts.steps }
     requires synced { moving.old.parts.work.resync ≡ None }
     requires due { IsEnterDue moving.old }
     requires sure { (span : AnySpan) → moving.old.course.window ≡ IsUnsureWindow span → (refusal : AnyRefusal) × AreTooMany moving.old.parts.members refusal }
+    requires active { is_reshaping moving.old.parts.members.newest ≡ true }
     ensures entered { IsStepTaken who moving.old.parts.entries moving.new.parts.entries EntersWindow (left_in moving.new.parts.work moving.new.parts.members moving.new.course moving.new.ahead) result }
     ensures called { IsCalled B.tells (B.given moving.old.parts.bank) (B.tape moving.old.parts.bank) (B.tape moving.new.parts.bank) (B.faults_of moving.old.parts.bank) (B.faults_of moving.new.parts.bank) moving.old moving.new }
     ensures clean { is_clean moving.new.parts.members.newest ≡ is_clean moving.old.parts.members.newest }
@@ -54,6 +52,7 @@ fn enter_sure<B: Bank>(moving: &mut Moving<B>, who: Who) -> Result<(), Fault>
     ensures opened { OnOk result (IsNextOpen moving.old.parts.members moving.new.course) }
     ensures course { OnErr result ((moving.new.course ≡ moving.old.course) ⊎ IsNextUnsure moving.old.parts.members moving.new.course) }
     ensures room { moving.new.parts.steps + 1 ≡ moving.old.parts.steps }
+    ensures active { is_reshaping moving.new.parts.members.newest ≡ true }
     ensures given { B.given moving.new.parts.bank ≡ B.given moving.old.parts.bank }
 {
     moving.steps -= 1;
@@ -94,7 +93,7 @@ fn enter_sure<B: Bank>(moving: &mut Moving<B>, who: Who) -> Result<(), Fault>
         return Err(Fault::Refused(refusal));
     }
     let kind = StepKind::Entered;
-    let left = all_left(&moving.members, &moving.work, &moving.course, &moving.ahead);
+    let left = left_in_reshape(&moving.members, &moving.work, &moving.course, &moving.ahead);
     let event = Event::Step { kind, left };
     append_after_losses(
         &mut moving.epoch,
@@ -110,12 +109,13 @@ fn enter_sure<B: Bank>(moving: &mut Moving<B>, who: Who) -> Result<(), Fault>
 /// A step of the reshape, of which no window is open, where no resync is pending: the next one is entered. Its sectors are read into the window's buffer, and
 /// stored in the backup, where it is critical. Refusals: `TooManyMissing`, and `BackupFault` where the backup fails, which may leave
 /// the window unsure; that is entered only once its header can be made plain. It takes no memory.
-pub fn enter_window<B: Bank>(moving: &mut Moving<B>, who: Who) -> Result<(), Fault>
+pub fn enter_window<B: Bank>(moving: &mut Array<B>, who: Who) -> Result<(), Fault>
     requires open { IsCallGoing moving.old.parts.entries who }
     requires caller { who.caller ≢ 254 }
     requires room { 1 ≤ moving.old.parts.steps }
     requires synced { moving.old.parts.work.resync ≡ None }
     requires due { IsEnterDue moving.old }
+    requires active { is_reshaping moving.old.parts.members.newest ≡ true }
     ensures entered { IsStepTaken who moving.old.parts.entries moving.new.parts.entries EntersWindow (left_in moving.new.parts.work moving.new.parts.members moving.new.course moving.new.ahead) result }
     ensures called { IsCalled B.tells (B.given moving.old.parts.bank) (B.tape moving.old.parts.bank) (B.tape moving.new.parts.bank) (B.faults_of moving.old.parts.bank) (B.faults_of moving.new.parts.bank) moving.old moving.new }
     ensures clean { is_clean moving.new.parts.members.newest ≡ is_clean moving.old.parts.members.newest }
@@ -124,6 +124,7 @@ pub fn enter_window<B: Bank>(moving: &mut Moving<B>, who: Who) -> Result<(), Fau
     ensures opened { OnOk result (IsNextOpen moving.old.parts.members moving.new.course) }
     ensures course { OnErr result ((moving.new.course ≡ moving.old.course) ⊎ IsNextUnsure moving.old.parts.members moving.new.course) }
     ensures room { moving.new.parts.steps + 1 ≡ moving.old.parts.steps }
+    ensures active { is_reshaping moving.new.parts.members.newest ≡ true }
     ensures given { B.given moving.new.parts.bank ≡ B.given moving.old.parts.bank }
 {
     if is_barred(&moving.members, &moving.course) {

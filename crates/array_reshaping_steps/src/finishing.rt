@@ -1,40 +1,37 @@
 //! An open window is finished in one call.
 
-ghost use Rattle.std.specs.Prelude.{◌≡◌, ◌≢◌, ◌+◌, ◌-◌, ◌*◌, ◌≤◌, ℕ, length, take, None, Some, MatchOption, OnOk, OnErr, ⊤};
+ghost use Rattle.std.specs.Prelude.{◌≡◌, ◌≢◌, ◌+◌, ◌-◌, ◌*◌, ◌≤◌, ℕ, length, take, None, Some, MatchOption, OnOk, OnErr, ⊤, true};
 ghost use Rattle.array_fixed_invariant.specs.raid_types_Sectors.{Sector};
 ghost use Rattle.array_fixed_invariant.specs.bank_Tape.{disk};
-ghost use Rattle.array_reshaping.specs.reshape_geometry_Geometry.{stripes};
-ghost use Rattle.array_reshaping.specs.sb_specs_Reading.{Scope, is_clean, final_shape, list_length, next_window};
+ghost use Rattle.array_type.specs.reshape_geometry_Geometry.{stripes};
+ghost use Rattle.array_fixed_invariant.specs.sb_specs_Reading.{Scope, is_clean, final_shape, list_length, next_window, is_reshaping};
 ghost use Rattle.array_fixed_invariant.specs.stripe_row_Rows.{present, reading_of};
 ghost use Rattle.array_fixed_invariant.specs.history_World.{World};
 ghost use Rattle.array_fixed_invariant.specs.history_Sound.{OpensFit};
 ghost use Rattle.array_fixed_invariant.specs.history_the_StepKind_TheVariants.{WindowFinished as FinishesWindow};
-ghost use Rattle.array_reshaping.specs.crash_views_Regions.{ArePlaced};
-ghost use Rattle.array_reshaping.specs.crash_views_Views.{AreHeadersFit, Ledger};
-ghost use Rattle.array_reshaping.specs.crash_views_Windows.{HasNoSection, moved_past};
-ghost use Rattle.array_reshaping.specs.crash_safety_laws_Safety.{HasRoomLeft, IsRisen};
-ghost use Rattle.array_reshaping.specs.crash_safety_laws_Steady.{IsSafeOver, KeepsSafe, AreGoneTold, IsUncleanTold};
+ghost use Rattle.array_fixed_invariant.specs.crash_views_Regions.{ArePlaced};
+ghost use Rattle.array_fixed_invariant.specs.crash_views_Views.{AreHeadersFit, Ledger};
+ghost use Rattle.array_fixed_invariant.specs.crash_views_Windows.{HasNoSection, moved_past};
+ghost use Rattle.array_fixed_invariant.specs.crash_safety_laws_Safety.{HasRoomLeft, IsRisen};
+ghost use Rattle.array_fixed_invariant.specs.crash_safety_laws_Steady.{IsSafeOver, KeepsSafe, AreGoneTold, IsUncleanTold};
 ghost use Rattle.array_fixed_invariant.specs.array_members_Moving.{IsMoved};
-ghost use Rattle.array_reshaping.specs.array_members_Lacking.{HaveFailedSince, HaveRolesFailed, AreLostSince, AreTooMany, AreOtherRowsKept};
-ghost use Rattle.array_reshaping.specs.sb_safe_updates_Unused.{IsUnusedKept};
-ghost use Rattle.array_reshaping.specs.reshape_window_rows_Copies.{tail_of, IsCopied};
-ghost use Rattle.array_reshaping.specs.reshape_window_io_Finishing.{IsOfRest, AreStripesCopied, IsOpenWindow};
-ghost use Rattle.array_reshaping.specs.array_call_specs_Calls.{IsCausedBy};
-ghost use Rattle.array_reshaping.specs.history_invariant_Recorded.{IsCallGoing};
-ghost use Rattle.array_reshaping.specs.stripe_region_resync_Resyncs.{relied_sector};
-ghost use Rattle.array_reshaping.specs.reshape_progress_Laws.{closed};
-ghost use Rattle.array_reshaping.specs.array_specs_Parts.{left_in};
-ghost use Rattle.array_reshaping.specs.array_reshaping_invariant_Moving.{IsWindowStanding};
-ghost use Rattle.array_reshaping.specs.array_reshaping_state_Due.{open_in};
-ghost use Rattle.array_reshaping.specs.array_specs_Calls.{moving_world, IsCalled, IsStepTaken};
-ghost use Rattle.array_reshaping.specs.array_reshaping_laws_Writing.{IsWindowOpen, steps_in};
-ghost use Rattle.array_reshaping.specs.sb_safe_updates_Frame.{Stands, GoesOn};
+ghost use Rattle.array_fixed_invariant.specs.array_members_Lacking.{HaveFailedSince, HaveRolesFailed, AreLostSince, AreTooMany, AreOtherRowsKept};
+ghost use Rattle.array_fixed_invariant.specs.sb_safe_updates_Unused.{IsUnusedKept};
+ghost use Rattle.array_type.specs.reshape_window_rows_Copies.{tail_of, IsCopied};
+ghost use Rattle.array_type.specs.reshape_window_io_Finishing.{IsOfRest, AreStripesCopied, IsOpenWindow};
+ghost use Rattle.array_fixed_invariant.specs.array_call_specs_Calls.{IsCausedBy};
+ghost use Rattle.array_fixed_invariant.specs.history_invariant_Recorded.{IsCallGoing};
+ghost use Rattle.array_type.specs.stripe_region_resync_Resyncs.{relied_sector};
+ghost use Rattle.array_fixed_invariant.specs.reshape_progress_Laws.{closed};
+ghost use Rattle.array_type.specs.array_specs_Parts.{left_in};
+ghost use Rattle.array_type.specs.array_reshaping_invariant_Moving.{IsWindowStanding};
+ghost use Rattle.array_type.specs.array_reshaping_state_Due.{open_in};
+ghost use Rattle.array_type.specs.array_specs_Calls.{moving_world, IsCalled, IsStepTaken};
+ghost use Rattle.array_type.specs.array_reshaping_laws_Writing.{IsWindowOpen, steps_in};
+ghost use Rattle.array_type.specs.sb_safe_updates_Frame.{Stands, GoesOn};
 
 use array_fixed_invariant::{Fault, Refusal, Span, Who, append_after_losses, append_entry};
-use array_reshaping::{
-    Bank, Course, Event, Members, Moving, StepKind, Window, all_left, check_going, final_in,
-    finish_window, newly_unassigned, too_many, unassigned_roles,
-};
+use array_type::{Bank, Course, Event, Members, Array, StepKind, Window, left_in_reshape, check_going, final_in, finish_window, newly_unassigned, too_many, unassigned_roles};
 
 // The roles and the spares that were lost as a window was finished, how many of its stripes are copied, and why it isn't.
 #[derive(Clone, Copy)]
@@ -98,11 +95,12 @@ fn finish_rest<B: Bank>(
 
 /// The open window is finished in one call: its stripes that are left are copied, and it is recorded. Refusals: `TooManyMissing`;
 /// then the window is open as before. It takes no memory.
-pub fn finish_open<B: Bank>(moving: &mut Moving<B>, who: Who) -> Result<(), Fault>
+pub fn finish_open<B: Bank>(moving: &mut Array<B>, who: Who) -> Result<(), Fault>
     requires open { IsCallGoing moving.old.parts.entries who }
     requires caller { who.caller ≢ 254 }
     requires room { 1 ≤ moving.old.parts.steps }
     requires due { IsWindowOpen moving.old }
+    requires active { is_reshaping moving.old.parts.members.newest ≡ true }
     ensures entered { IsStepTaken who moving.old.parts.entries moving.new.parts.entries FinishesWindow (left_in moving.new.parts.work moving.new.parts.members moving.new.course moving.new.ahead) result }
     ensures goes { OnOk result (IsCallGoing moving.new.parts.entries who) }
     ensures called { IsCalled B.tells (B.given moving.old.parts.bank) (B.tape moving.old.parts.bank) (B.tape moving.new.parts.bank) (B.faults_of moving.old.parts.bank) (B.faults_of moving.new.parts.bank) moving.old moving.new }
@@ -115,6 +113,7 @@ pub fn finish_open<B: Bank>(moving: &mut Moving<B>, who: Who) -> Result<(), Faul
     ensures stood { OnOk result (B.tells → IsWindowStanding (open_in moving.old.course.window) (moving_world (B.given moving.new.parts.bank) (B.tape moving.new.parts.bank) moving.new) moving.new.parts.entries moving.new.parts.members (present (B.given moving.new.parts.bank) (B.tape moving.new.parts.bank))) }
     ensures course { OnErr result (moving.new.course ≡ moving.old.course) }
     ensures room { moving.new.parts.steps + 1 ≡ moving.old.parts.steps }
+    ensures active { is_reshaping moving.new.parts.members.newest ≡ true }
     ensures given { B.given moving.new.parts.bank ≡ B.given moving.old.parts.bank }
 {
     moving.steps -= 1;
@@ -151,7 +150,7 @@ pub fn finish_open<B: Bank>(moving: &mut Moving<B>, who: Who) -> Result<(), Faul
         zeroed: 0,
     };
     let kind = StepKind::WindowFinished;
-    let left = all_left(&moving.members, &moving.work, &moving.course, &moving.ahead);
+    let left = left_in_reshape(&moving.members, &moving.work, &moving.course, &moving.ahead);
     let event = Event::Step { kind, left };
     append_after_losses(&mut moving.epoch, who, end, rest.roles, rest.spares, event);
     Ok(())

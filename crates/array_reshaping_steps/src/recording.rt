@@ -1,28 +1,26 @@
 //! The windows of a reshape are recorded.
 
-ghost use Rattle.std.specs.Prelude.{◌≡◌, ◌≢◌, ◌+◌, ◌≤◌, OnOk, OnErr};
+ghost use Rattle.std.specs.Prelude.{◌≡◌, ◌≢◌, ◌+◌, ◌≤◌, OnOk, OnErr, true};
 ghost use Rattle.array_fixed_invariant.specs.history_the_StepKind_TheVariants.{Checkpointed as RecordsWindow};
-ghost use Rattle.array_reshaping.specs.sb_specs_Reading.{is_clean, list_length};
-ghost use Rattle.array_reshaping.specs.array_members_Lacking.{AreTooMany};
-ghost use Rattle.array_reshaping.specs.array_call_specs_Calls.{IsCausedBy};
-ghost use Rattle.array_reshaping.specs.history_invariant_Recorded.{IsCallGoing};
-ghost use Rattle.array_reshaping.specs.reshape_progress_Laws.{closed};
-ghost use Rattle.array_reshaping.specs.array_specs_Parts.{left_in};
-ghost use Rattle.array_reshaping.specs.array_specs_Calls.{IsCalled, IsStepTaken, IsRecordDue};
+ghost use Rattle.array_fixed_invariant.specs.sb_specs_Reading.{is_clean, list_length, is_reshaping};
+ghost use Rattle.array_fixed_invariant.specs.array_members_Lacking.{AreTooMany};
+ghost use Rattle.array_fixed_invariant.specs.array_call_specs_Calls.{IsCausedBy};
+ghost use Rattle.array_fixed_invariant.specs.history_invariant_Recorded.{IsCallGoing};
+ghost use Rattle.array_fixed_invariant.specs.reshape_progress_Laws.{closed};
+ghost use Rattle.array_type.specs.array_specs_Parts.{left_in};
+ghost use Rattle.array_type.specs.array_specs_Calls.{IsCalled, IsStepTaken, IsRecordDue};
 
 use array_fixed_invariant::{Fault, Who, append_after_losses, append_entry};
-use array_reshaping::{
-    Bank, Course, Event, Moving, StepKind, Window, all_left, check_going, newly_unassigned, record,
-    too_many, unassigned_roles,
-};
+use array_type::{Bank, Course, Event, Array, StepKind, Window, left_in_reshape, check_going, newly_unassigned, record, too_many, unassigned_roles};
 
 /// A step of the reshape: the open window, whose stripes are all copied, is recorded. Refusals: `TooManyMissing`. It takes no
 /// memory.
-pub fn record_window<B: Bank>(moving: &mut Moving<B>, who: Who) -> Result<(), Fault>
+pub fn record_window<B: Bank>(moving: &mut Array<B>, who: Who) -> Result<(), Fault>
     requires open { IsCallGoing moving.old.parts.entries who }
     requires caller { who.caller ≢ 254 }
     requires room { 1 ≤ moving.old.parts.steps }
     requires due { IsRecordDue moving.old }
+    requires active { is_reshaping moving.old.parts.members.newest ≡ true }
     ensures entered { IsStepTaken who moving.old.parts.entries moving.new.parts.entries RecordsWindow (left_in moving.new.parts.work moving.new.parts.members moving.new.course moving.new.ahead) result }
     ensures called { IsCalled B.tells (B.given moving.old.parts.bank) (B.tape moving.old.parts.bank) (B.tape moving.new.parts.bank) (B.faults_of moving.old.parts.bank) (B.faults_of moving.new.parts.bank) moving.old moving.new }
     ensures clean { is_clean moving.new.parts.members.newest ≡ is_clean moving.old.parts.members.newest }
@@ -31,6 +29,7 @@ pub fn record_window<B: Bank>(moving: &mut Moving<B>, who: Who) -> Result<(), Fa
     ensures closed { OnOk result (moving.new.course ≡ closed 0) }
     ensures course { OnErr result (moving.new.course ≡ moving.old.course) }
     ensures room { moving.new.parts.steps + 1 ≡ moving.old.parts.steps }
+    ensures active { is_reshaping moving.new.parts.members.newest ≡ true }
     ensures given { B.given moving.new.parts.bank ≡ B.given moving.old.parts.bank }
 {
     moving.steps -= 1;
@@ -63,7 +62,7 @@ pub fn record_window<B: Bank>(moving: &mut Moving<B>, who: Who) -> Result<(), Fa
         zeroed: 0,
     };
     let kind = StepKind::Checkpointed;
-    let left = all_left(&moving.members, &moving.work, &moving.course, &moving.ahead);
+    let left = left_in_reshape(&moving.members, &moving.work, &moving.course, &moving.ahead);
     let event = Event::Step { kind, left };
     append_after_losses(&mut moving.epoch, who, end, roles, done.spares, event);
     Ok(())

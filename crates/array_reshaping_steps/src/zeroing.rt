@@ -1,29 +1,27 @@
 //! The stripes behind the list, once a reshape has gone through it.
 
-ghost use Rattle.std.specs.Prelude.{◌≡◌, ◌≢◌, ◌+◌, ◌≤◌, None, OnOk, OnErr};
+ghost use Rattle.std.specs.Prelude.{◌≡◌, ◌≢◌, ◌+◌, ◌≤◌, None, OnOk, OnErr, true};
 ghost use Rattle.array_fixed_invariant.specs.history_the_StepKind_TheVariants.{Zeroed as ZeroesStripe};
-ghost use Rattle.array_reshaping.specs.sb_specs_Reading.{is_clean, list_length};
-ghost use Rattle.array_reshaping.specs.array_members_Lacking.{AreTooMany};
-ghost use Rattle.array_reshaping.specs.array_call_specs_Calls.{IsCausedBy};
-ghost use Rattle.array_reshaping.specs.history_invariant_Recorded.{IsCallGoing};
-ghost use Rattle.array_reshaping.specs.reshape_progress_Laws.{closed};
-ghost use Rattle.array_reshaping.specs.array_specs_Parts.{left_in};
-ghost use Rattle.array_reshaping.specs.array_specs_Calls.{IsCalled, IsStepTaken, IsZeroDue};
+ghost use Rattle.array_fixed_invariant.specs.sb_specs_Reading.{is_clean, list_length, is_reshaping};
+ghost use Rattle.array_fixed_invariant.specs.array_members_Lacking.{AreTooMany};
+ghost use Rattle.array_fixed_invariant.specs.array_call_specs_Calls.{IsCausedBy};
+ghost use Rattle.array_fixed_invariant.specs.history_invariant_Recorded.{IsCallGoing};
+ghost use Rattle.array_fixed_invariant.specs.reshape_progress_Laws.{closed};
+ghost use Rattle.array_type.specs.array_specs_Parts.{left_in};
+ghost use Rattle.array_type.specs.array_specs_Calls.{IsCalled, IsStepTaken, IsZeroDue};
 
 use array_fixed_invariant::{Fault, Who, append_after_losses, append_entry};
-use array_reshaping::{
-    Bank, Event, Moving, StepKind, all_left, check_going, final_in, newly_unassigned,
-    stripe_to_zero, too_many, unassigned_roles, zero,
-};
+use array_type::{Bank, Event, Array, StepKind, left_in_reshape, check_going, final_in, newly_unassigned, stripe_to_zero, too_many, unassigned_roles, zero};
 
 /// A step of the reshape, which has gone through the list, where no resync is pending: the next stripe behind it is zeroed. Refusals: `TooManyMissing`. It
 /// takes no memory.
-pub fn zero_stripe<B: Bank>(moving: &mut Moving<B>, who: Who) -> Result<(), Fault>
+pub fn zero_stripe<B: Bank>(moving: &mut Array<B>, who: Who) -> Result<(), Fault>
     requires open { IsCallGoing moving.old.parts.entries who }
     requires caller { who.caller ≢ 254 }
     requires room { 1 ≤ moving.old.parts.steps }
     requires synced { moving.old.parts.work.resync ≡ None }
     requires due { IsZeroDue moving.old }
+    requires active { is_reshaping moving.old.parts.members.newest ≡ true }
     ensures entered { IsStepTaken who moving.old.parts.entries moving.new.parts.entries ZeroesStripe (left_in moving.new.parts.work moving.new.parts.members moving.new.course moving.new.ahead) result }
     ensures called { IsCalled B.tells (B.given moving.old.parts.bank) (B.tape moving.old.parts.bank) (B.tape moving.new.parts.bank) (B.faults_of moving.old.parts.bank) (B.faults_of moving.new.parts.bank) moving.old moving.new }
     ensures clean { is_clean moving.new.parts.members.newest ≡ is_clean moving.old.parts.members.newest }
@@ -32,6 +30,7 @@ pub fn zero_stripe<B: Bank>(moving: &mut Moving<B>, who: Who) -> Result<(), Faul
     ensures zeroed { OnOk result (moving.new.course ≡ closed (moving.old.course.zeroed + 1)) }
     ensures course { OnErr result (moving.new.course ≡ moving.old.course) }
     ensures room { moving.new.parts.steps + 1 ≡ moving.old.parts.steps }
+    ensures active { is_reshaping moving.new.parts.members.newest ≡ true }
     ensures given { B.given moving.new.parts.bank ≡ B.given moving.old.parts.bank }
 {
     moving.steps -= 1;
@@ -62,7 +61,7 @@ pub fn zero_stripe<B: Bank>(moving: &mut Moving<B>, who: Who) -> Result<(), Faul
     }
     moving.course.zeroed = zeroed + 1;
     let kind = StepKind::Zeroed;
-    let left = all_left(&moving.members, &moving.work, &moving.course, &moving.ahead);
+    let left = left_in_reshape(&moving.members, &moving.work, &moving.course, &moving.ahead);
     let event = Event::Step { kind, left };
     append_after_losses(&mut moving.epoch, who, end, roles, done.spares, event);
     Ok(())

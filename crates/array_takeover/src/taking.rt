@@ -1,11 +1,11 @@
 //! The level of an array is taken over: 5 to 6, or 6 to 5.
 
-ghost use Rattle.std.specs.Prelude.{◌≡◌, ◌≢◌, ◌+◌, ◌⊎◌, ◌≤◌, ◌<◌, ◌^◌, ◌++◌, ◌∷◌, ◌&&◌, [], ℕ, nat_lt, true, length, vec_capacity, IfOk, IfErr, IsTrue, IfSome};
+ghost use Rattle.std.specs.Prelude.{◌≡◌, ◌≢◌, ◌+◌, ◌⊎◌, ◌≤◌, ◌<◌, ◌^◌, ◌++◌, ◌∷◌, ◌&&◌, [], ℕ, nat_lt, true, length, vec_capacity, IfOk, IfErr, IsTrue, IfSome, false};
 ghost use Rattle.std.specs.List.{list_any};
 ghost use Rattle.array_takeover_laws.specs.raid_types_Shapes.{has_slot, is_valid_shape};
 ghost use Rattle.array_takeover_laws.specs.raid_types_the_Shape.{Shape as AShape};
 ghost use Rattle.array_fixed_io.specs.reshape_plan_Plans.{AreSound};
-ghost use Rattle.array_fixed_io.specs.sb_specs_Reading.{shape_of, role_count};
+ghost use Rattle.array_fixed_io.specs.sb_specs_Reading.{shape_of, role_count, is_reshaping};
 ghost use Rattle.array_fixed_io.specs.stripe_row_Rows.{reading_of};
 ghost use Rattle.array_fixed_io.specs.history_the_Event_TheVariants.{Step, Refused};
 ghost use Rattle.array_fixed_io.specs.history_the_StepKind_TheVariants.{TakenOver as HasTaken};
@@ -25,10 +25,7 @@ ghost use Rattle.array_fixed_io.specs.array_fixed_invariant_reshape_progress_Law
 ghost use Rattle.array_takeover.specs.TakenOver.{IsTakeoverNext, IsUntaken, IsUntouched, IsLevelTaken, work_then};
 
 use crate::choosing::taken_slot;
-use array_fixed_io::{
-    Bank, Entries, Epoch, Event, Members, PhasesLeft, Pieces, StepKind, Still, Work, planned_left,
-    set_rebuilt, steps_left, unassigned_roles,
-};
+use array_fixed_io::{Bank, Entries, Epoch, Event, Members, PhasesLeft, Pieces, StepKind, Array, Work, planned_left, set_rebuilt, steps_left, unassigned_roles};
 use array_takeover_laws::{Refusal, Shape, Who, append_entry, append_lost};
 use reshape_sb_takeover::take_over as take_level;
 
@@ -105,7 +102,7 @@ fn enter_taken(epoch: &mut Epoch, who: Who, end: u64, told: &TakenTold)
 }
 
 // The array, in whose history a plan was told, goes on as it was, and the step is refused.
-fn give_back<B: Bank>(pieces: Pieces<B>, who: Who, refusal: Refusal) -> Still<B>
+fn give_back<B: Bank>(pieces: Pieces<B>, who: Who, refusal: Refusal) -> Array<B>
     requires ready { IsReady B.tells (B.given pieces.bank) (B.tape pieces.bank) (scope_in (B.given pieces.bank) pieces.epoch.uuid pieces.epoch.given pieces.backup)
         pieces.epoch.first pieces.epoch.entries.items pieces.members pieces.work pieces.ahead pieces.limit (B.faults_of pieces.bank) pieces.steps pieces.epoch.entries.room
         (vec_capacity pieces.rows) (length pieces.buffer.items) (vec_capacity pieces.far_rows) (length pieces.far_buffer.items) }
@@ -131,13 +128,14 @@ fn give_back<B: Bank>(pieces: Pieces<B>, who: Who, refusal: Refusal) -> Still<B>
       ahead = pieces.ahead;
       limit = pieces.limit;
     } in IsUntouched B.tells (B.tape pieces.bank) who refusal old result }
+    ensures still { is_reshaping result.parts.members.newest ≡ false }
 {
     let mut pieces = pieces;
     pieces.steps -= 1;
     check_going(&pieces.epoch.entries, who);
     let end = pieces.bank.ops();
     append_entry(&mut pieces.epoch, who, end, Event::Refused { refusal });
-    Still::of_pieces(pieces)
+    Array::of_fixed(pieces)
 }
 
 /// The next phase of a plan is done, a takeover of the level to this shape, where nothing else is left to do: the superblocks record
@@ -146,23 +144,26 @@ fn give_back<B: Bank>(pieces: Pieces<B>, who: Who, refusal: Refusal) -> Still<B>
 ///
 /// Refused, the array goes on as it was: `Degraded` where a role is missing, and `NeedSpares` where there is no spare for Q.
 pub fn take_over<B: Bank>(
-    still: Still<B>,
+    still: Array<B>,
     who: Who,
     to: Shape,
     behind: PhasesLeft,
-) -> Result<Still<B>, (Still<B>, Refusal)>
+) -> Result<Array<B>, (Array<B>, Refusal)>
     requires open { IsCallGoing still.parts.entries who }
     requires caller { who.caller ≢ 254 }
     requires room { 1 ≤ still.parts.steps }
     requires done { left_of still.parts.work still.parts.members ≡ 0 }
     requires next { IsTakeoverNext (phases_of still.ahead) to (phases_of behind) }
     requires plans { ArePlansKept B.tells (moving_world (B.given still.parts.bank) (B.tape still.parts.bank) still) still }
+    requires still { is_reshaping still.parts.members.newest ≡ false }
     ensures taken { IfOk result (λ r. IsLevelTaken B.tells (B.given still.parts.bank) (B.tape still.parts.bank) (B.tape r.parts.bank) (B.faults_of still.parts.bank) (B.faults_of r.parts.bank) who to behind still r) }
+    ensures still { IfOk result (λ r. is_reshaping r.parts.members.newest ≡ false) }
+    ensures left_still { IfErr result (λ e. is_reshaping e.0.parts.members.newest ≡ false) }
     ensures given { IfOk result (λ r. B.given r.parts.bank ≡ B.given still.parts.bank) }
     ensures refused { IfErr result (λ e. IsUntouched B.tells (B.tape still.parts.bank) who e.1 still e.0) }
     ensures caused { IfErr result (λ e. IsUntaken still.parts.members to e.1) }
 {
-    let mut pieces = still.take_apart();
+    let mut pieces = still.part_fixed();
     let slot = match taken_slot(&pieces.members, &to) {
         Ok(slot) => slot,
         Err(refusal) => return Err((give_back(pieces, who, refusal), refusal)),
@@ -175,5 +176,5 @@ pub fn take_over<B: Bank>(
     let told = told_of(&pieces.members, &pieces.work, &to, &behind, spares);
     enter_taken(&mut pieces.epoch, who, end, &told);
     pieces.ahead = behind;
-    Ok(Still::of_pieces(pieces))
+    Ok(Array::of_fixed(pieces))
 }

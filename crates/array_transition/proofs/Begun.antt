@@ -68,9 +68,9 @@ use Rattle.array_reshaping_steps.specs.history_invariant_Recorded.{IsOpenBehind,
 use Rattle.array_reshaping_steps.specs.history_invariant_Safe.{world_in, TakesNone}
 use Rattle.array_reshaping_steps.proofs.history_invariant_Entered.{lost-taken}
 use Rattle.array_reshaping_steps.proofs.history_invariant_Tests.{neither}
-use Rattle.array_reshaping_steps.proofs.history_invariant_laws_Behind.{IsAmong, early-losses}
+use Rattle.array_reshaping_end_laws.proofs.history_invariant_laws_Behind.{IsAmong, early-losses}
 use Rattle.array_reshaping_steps.specs.reshape_progress_Laws.{closed}
-use Rattle.array_reshaping_steps.specs.array_reshaping_invariant_Moving.{IsMoving}
+use Rattle.array_reshaping_end_laws.specs.array_reshaping_invariant_Moving.{IsMoving}
 use Rattle.array_reshaping_steps.proofs.array_reshaping_invariant_BegunCall.{IsBegunBy, begun-length}
 use Rattle.array_reshaping_steps.proofs.array_reshaping_invariant_BegunMembers.{array-begins}
 use Rattle.array_reshaping_end_laws.proofs.Shortened.{array-shortens}

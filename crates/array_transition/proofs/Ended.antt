@@ -38,7 +38,7 @@ use Rattle.array_reshaping_steps.specs.history_invariant_Recorded.{IsCallGoing}
 use Rattle.array_reshaping_steps.specs.history_invariant_Safe.{world_in}
 use Rattle.array_reshaping_steps.specs.reshape_progress_the_Course.{Course}
 use Rattle.array_reshaping_steps.specs.reshape_progress_Laws.{closed}
-use Rattle.array_reshaping_steps.specs.array_reshaping_invariant_Moving.{IsMoving}
+use Rattle.array_reshaping_end_laws.specs.array_reshaping_invariant_Moving.{IsMoving}
 use Rattle.array_reshaping_end_laws.proofs.Ended.{IsPlannedTo, IsStepped}
 use Rattle.array_reshaping_end_laws.proofs.Ending.{length_by, grown_to, ending_events}
 use Rattle.array_reshaping_steps.specs.array_specs_Parts.{left_in, still_left}

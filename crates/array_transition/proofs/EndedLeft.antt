@@ -28,7 +28,7 @@ use Rattle.array_reshaping_steps.specs.reshape_request_the_PhasesLeft.{PhasesLef
 use Rattle.array_reshaping_steps.specs.reshape_request_the_Window_TheVariants.{Closed}
 use Rattle.array_reshaping_steps.specs.reshape_request_Left.{IsReshapeUnderWay, phases_of, grow_left, reshape_left, zeroed_by}
 use Rattle.array_reshaping_steps.proofs.reshape_request_LeftLaws.{ending as ending-left}
-use Rattle.array_reshaping_steps.proofs.history_invariant_laws_Behind.{IsAmong}
+use Rattle.array_reshaping_end_laws.proofs.history_invariant_laws_Behind.{IsAmong}
 use Rattle.array_reshaping_steps.specs.reshape_progress_Laws.{closed}
 use Rattle.array_reshaping_end_laws.proofs.Ended.{IsStepped}
 use Rattle.array_reshaping_end_laws.proofs.Ending.{only-lost}

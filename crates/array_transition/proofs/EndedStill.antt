@@ -54,9 +54,9 @@ use Rattle.array_reshaping_steps.specs.history_invariant_Recorded.{IsCallGoing}
 use Rattle.array_reshaping_steps.specs.history_invariant_Safe.{world_in, TakesNone, KeepsLevel}
 use Rattle.array_reshaping_steps.proofs.history_invariant_Entered.{lost-taken}
 use Rattle.array_reshaping_steps.proofs.history_invariant_Tests.{neither}
-use Rattle.array_reshaping_steps.proofs.history_invariant_laws_Behind.{IsAmong}
+use Rattle.array_reshaping_end_laws.proofs.history_invariant_laws_Behind.{IsAmong}
 use Rattle.array_reshaping_steps.specs.reshape_progress_Laws.{closed}
-use Rattle.array_reshaping_steps.specs.array_reshaping_invariant_Moving.{IsMoving, IsStillKept}
+use Rattle.array_reshaping_end_laws.specs.array_reshaping_invariant_Moving.{IsMoving, IsStillKept}
 use Rattle.array_reshaping_end_laws.proofs.Ended.{IsPlannedTo, IsStepped}
 use Rattle.array_reshaping_end_laws.proofs.EndedCall.{IsEndedBy, ended-since}
 use Rattle.array_reshaping_end_laws.proofs.EndedMembers.{array-ends}

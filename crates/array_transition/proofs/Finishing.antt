@@ -59,12 +59,12 @@ use Rattle.array_reshaping_steps.specs.reshape_request_the_PhasesLeft.{PhasesLef
 use Rattle.array_reshaping_steps.specs.reshape_request_Left.{zeroed_by}
 use Rattle.array_reshaping_steps.specs.history_invariant_Recorded.{IsCallGoing}
 use Rattle.array_reshaping_steps.specs.history_invariant_Safe.{world_in}
-use Rattle.array_reshaping_steps.proofs.history_invariant_laws_Behind.{IsAmong}
+use Rattle.array_reshaping_end_laws.proofs.history_invariant_laws_Behind.{IsAmong}
 use Rattle.array_reshaping_steps.specs.reshape_progress_the_Course.{Course}
 use Rattle.array_reshaping_steps.specs.reshape_progress_Course.{IsCourseOf}
 use Rattle.array_reshaping_steps.specs.reshape_progress_Laws.{closed}
 use Rattle.array_reshaping_steps.proofs.reshape_progress_resync_laws_Synced.{mended-courses-move}
-use Rattle.array_reshaping_steps.specs.array_reshaping_invariant_Moving.{IsMoving}
+use Rattle.array_reshaping_end_laws.specs.array_reshaping_invariant_Moving.{IsMoving}
 use Rattle.array_reshaping_steps.proofs.array_reshaping_invariant_Staying.{refused-moves}
 use Rattle.array_reshaping_steps.proofs.array_reshaping_invariant_Steps.{missing-since}
 use Rattle.array_reshaping_end_laws.proofs.Ended.{IsStepped, disturbs-entries}

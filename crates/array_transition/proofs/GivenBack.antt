@@ -29,7 +29,7 @@ use Rattle.array_reshaping_steps.proofs.array_members_MovedLaws.{moved-same}
 use Rattle.array_reshaping_steps.proofs.array_call_specs_KeptLaws.{left-lost}
 use Rattle.array_reshaping_steps.specs.history_invariant_Recorded.{IsCallGoing}
 use Rattle.array_reshaping_steps.specs.history_invariant_Safe.{world_in}
-use Rattle.array_reshaping_steps.proofs.history_invariant_laws_Behind.{AreEarly}
+use Rattle.array_reshaping_end_laws.proofs.history_invariant_laws_Behind.{AreEarly}
 use Rattle.array_reshaping_steps.specs.array_fixed_invariant_Still.{HasListStood, IsStill}
 use Rattle.array_reshaping_steps.proofs.array_fixed_invariant_Quiet.{early-stands}
 use Rattle.array_reshaping_steps.proofs.array_fixed_invariant_Refusals.{IsRefusedStill, refused-right}

@@ -18,7 +18,7 @@ pub use Rattle.array_reshaping_steps.proofs.array_fixed_invariant_Refusals
 pub use Rattle.array_reshaping_steps.proofs.array_fixed_invariant_Resting
 pub use Rattle.array_reshaping_steps.proofs.array_fixed_invariant_Stood
 pub use Rattle.array_reshaping_steps.proofs.array_fixed_invariant_Whole
-pub use Rattle.array_fixed_sync.proofs.Lowest as array_fixed_sync_Lowest
+pub use Rattle.array_reshaping_steps.proofs.array_type_Lowest as array_fixed_sync_Lowest
 pub use Rattle.array_fixed_sync.proofs.NextLaws as array_fixed_sync_NextLaws
 pub use Rattle.array_fixed_sync.proofs.array_fixed_laws_Kept
 pub use Rattle.array_fixed_sync.proofs.array_fixed_laws_Plain

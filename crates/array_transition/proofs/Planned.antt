@@ -40,7 +40,7 @@ use Rattle.array_reshaping_steps.proofs.array_members_Fit.{count-alike, roles-st
 use Rattle.array_reshaping_steps.proofs.array_members_LackingLaws.{since-missing}
 use Rattle.array_reshaping_steps.proofs.array_members_LiveLeft.{holder-left}
 use Rattle.array_reshaping_steps.proofs.array_members_MarkLaws.{role_from-found}
-use Rattle.array_reshaping_steps.proofs.history_invariant_laws_Behind.{IsAmong}
+use Rattle.array_reshaping_end_laws.proofs.history_invariant_laws_Behind.{IsAmong}
 use Rattle.array_reshaping_steps.specs.array_fixed_invariant_Still.{AreNoneMissing}
 use Rattle.array_reshaping_steps.proofs.array_call_specs_DegradedLaws.{within-count}
 use Rattle.array_transition.specs.Begun.{CanBegin}

@@ -1,10 +1,10 @@
 pub mod Begun
 pub mod Ended
-pub use Rattle.array_reshaping_steps.specs.Replies as array_reshaping_steps_Replies
+pub use Rattle.array_calls.specs.Replies as array_reshaping_steps_Replies
 pub use Rattle.array_reshaping_steps.specs.reshape_progress_Course
 pub use Rattle.array_reshaping_steps.specs.reshape_progress_Laws
 pub use Rattle.array_reshaping_steps.specs.reshape_progress_the_Course
-pub use Rattle.array_reshaping_steps.specs.array_reshaping_invariant_Moving
+pub use Rattle.array_reshaping_end_laws.specs.array_reshaping_invariant_Moving
 pub use Rattle.array_reshaping_steps.specs.array_reshaping_laws_Resyncing
 pub use Rattle.array_reshaping_steps.specs.array_reshaping_laws_Ready
 pub use Rattle.array_reshaping_steps.specs.array_reshaping_laws_Steps
@@ -22,7 +22,7 @@ pub use Rattle.array_reshaping_steps.specs.array_specs_Parts
 pub use Rattle.array_reshaping_steps.specs.array_specs_Plans
 pub use Rattle.array_reshaping_steps.specs.array_specs_Still
 pub use Rattle.array_reshaping_steps.specs.array_fixed_invariant_Still
-pub use Rattle.array_fixed_sync.specs.Rebuilding as array_fixed_sync_Rebuilding
+pub use Rattle.array_reshaping_steps.specs.array_type_Rebuilding as array_fixed_sync_Rebuilding
 pub use Rattle.array_fixed_sync.specs.Resyncing as array_fixed_sync_Resyncing
 pub use Rattle.array_fixed_sync.specs.Stepping as array_fixed_sync_Stepping
 pub use Rattle.array_fixed_sync.specs.array_fixed_laws_Plain

@@ -7,7 +7,7 @@ ghost use Rattle.array_reshaping_steps.specs.raid_types_the_Phase_TheVariants.{R
 ghost use Rattle.array_reshaping_steps.specs.raid_types_the_Refusal_TheVariants.{BackupFault};
 ghost use Rattle.array_reshaping_steps.specs.bank_Given.{IsFaulted, NeverFalls};
 ghost use Rattle.array_reshaping_steps.specs.reshape_plan_Plans.{phase_window, AreSound};
-ghost use Rattle.array_reshaping_steps.specs.sb_specs_Reading.{is_backward, shape_of, final_shape, list_length, role_count};
+ghost use Rattle.array_reshaping_steps.specs.sb_specs_Reading.{is_backward, shape_of, final_shape, list_length, role_count, is_reshaping};
 ghost use Rattle.array_reshaping_steps.specs.stripe_row_Rows.{reading_of};
 ghost use Rattle.array_reshaping_steps.specs.history_the_Event_TheVariants.{Step};
 ghost use Rattle.array_reshaping_steps.specs.history_the_StepKind_TheVariants.{Begun};
@@ -28,12 +28,8 @@ ghost use Rattle.array_fixed_sync.specs.array_fixed_laws_Ready.{IsReady};
 ghost use Rattle.array_transition.specs.Begun.{begun_length, HasKeptLength, IsBackupAt, IsPlain, IsReshapeBegun, IsGivenBack, IsBeginRefused};
 
 use crate::refusing::unbegun;
-use array_fixed_sync::Still;
-use array_reshaping_steps::{
-    Bank, Course, Entries, Epoch, Event, Members, Moving, PhasesLeft, Pieces, Refusal, Shape,
-    StepKind, Who, Window, append_entry, append_lost, begin, contains, is_backward, list_sectors,
-    planned_left, reshape_left, unassigned_roles,
-};
+use array_fixed_sync::Array;
+use array_reshaping_steps::{Bank, Course, Entries, Epoch, Event, Members, Array, PhasesLeft, Pieces, Refusal, Shape, StepKind, Who, Window, append_entry, append_lost, begin, contains, is_backward, list_sectors, planned_left, reshape_left, unassigned_roles};
 
 // The number of a call that goes on is at most the number of entries.
 pub(crate) fn check_going(entries: &Entries, who: Who)
@@ -132,7 +128,7 @@ fn enter_begun(epoch: &mut Epoch, who: Who, end: u64, told: &BeginTold)
 }
 
 // The array, in whose history a plan was told, goes on as it was, and the step is refused.
-fn give_back<B: Bank>(pieces: Pieces<B>, who: Who, refusal: Refusal) -> Still<B>
+fn give_back<B: Bank>(pieces: Pieces<B>, who: Who, refusal: Refusal) -> Array<B>
     requires ready { IsReady B.tells (B.given pieces.bank) (B.tape pieces.bank) (scope_in (B.given pieces.bank) pieces.epoch.uuid pieces.epoch.given pieces.backup)
         pieces.epoch.first pieces.epoch.entries.items pieces.members pieces.work pieces.ahead pieces.limit (B.faults_of pieces.bank) pieces.steps pieces.epoch.entries.room
         (vec_capacity pieces.rows) (length pieces.buffer.items) (vec_capacity pieces.far_rows) (length pieces.far_buffer.items) }
@@ -159,17 +155,18 @@ fn give_back<B: Bank>(pieces: Pieces<B>, who: Who, refusal: Refusal) -> Still<B>
       limit = pieces.limit;
     } in IsGivenBack B.tells (B.given pieces.bank) (B.tape pieces.bank) (B.tape pieces.bank) who refusal old result }
     ensures bank { result.parts.bank ≡ pieces.bank }
+    ensures still { is_reshaping result.parts.members.newest ≡ false }
 {
     let mut pieces = pieces;
     pieces.steps -= 1;
     check_going(&pieces.epoch.entries, who);
     let end = pieces.bank.ops();
     append_entry(&mut pieces.epoch, who, end, Event::Refused { refusal });
-    Still::of_pieces(pieces)
+    Array::of_fixed(pieces)
 }
 
 // The array goes on as it was, and the step is refused: its backup, which the opening found failing, fails again.
-fn fail_backup<B: Bank>(pieces: Pieces<B>, who: Who, backup: u32) -> Still<B>
+fn fail_backup<B: Bank>(pieces: Pieces<B>, who: Who, backup: u32) -> Array<B>
     requires ready { IsReady B.tells (B.given pieces.bank) (B.tape pieces.bank) (scope_in (B.given pieces.bank) pieces.epoch.uuid pieces.epoch.given pieces.backup)
         pieces.epoch.first pieces.epoch.entries.items pieces.members pieces.work pieces.ahead pieces.limit (B.faults_of pieces.bank) pieces.steps pieces.epoch.entries.room
         (vec_capacity pieces.rows) (length pieces.buffer.items) (vec_capacity pieces.far_rows) (length pieces.far_buffer.items) }
@@ -199,6 +196,7 @@ fn fail_backup<B: Bank>(pieces: Pieces<B>, who: Who, backup: u32) -> Still<B>
     ensures failed { IsFaulted backup (B.faults_of pieces.bank) (B.faults_of result.parts.bank) }
     ensures never_falls { NeverFalls (B.faults_of pieces.bank) (B.faults_of result.parts.bank) }
     ensures tape { B.tells → B.tape result.parts.bank ≡ B.tape pieces.bank }
+    ensures still { is_reshaping result.parts.members.newest ≡ false }
     ensures given { B.given result.parts.bank ≡ B.given pieces.bank }
 {
     let mut pieces = pieces;
@@ -213,12 +211,12 @@ fn fail_backup<B: Bank>(pieces: Pieces<B>, who: Who, backup: u32) -> Still<B>
 /// Refused, the array goes on as it was, and the buffer is given back: `Degraded` where a role is missing, and `NeedSpares`
 /// where there are fewer spares than new roles, with nothing done; and `BackupFault` where the backup failed.
 pub fn begin_reshape<B: Bank>(
-    still: Still<B>,
+    still: Array<B>,
     who: Who,
     to: Shape,
     behind: PhasesLeft,
     window: Vec<u8>,
-) -> Result<Moving<B>, (Still<B>, Vec<u8>, Refusal)>
+) -> Result<Array<B>, (Array<B>, Vec<u8>, Refusal)>
     requires open { HasKeptLength still.parts.entries who }
     requires caller { who.caller ≢ 254 }
     requires room { 1 ≤ still.parts.steps }
@@ -226,7 +224,10 @@ pub fn begin_reshape<B: Bank>(
     requires next { phases_of still.ahead ≡ Reshape to ∷ phases_of behind }
     requires backed { (slot : ℕ) × (still.parts.backup ≡ Some slot) × IsBackupAt (B.given still.parts.bank) still.parts.members to slot }
     requires wide { 512 * phase_window (shape_of still.parts.members.newest) still.parts.members.newest.size (Reshape to) ≤ length window.items }
+    requires still { is_reshaping still.parts.members.newest ≡ false }
     ensures begun { IfOk result (λ r. IsReshapeBegun B.tells (B.given still.parts.bank) (B.tape still.parts.bank) (B.tape r.parts.bank) (B.faults_of still.parts.bank) (B.faults_of r.parts.bank) who to behind still r) }
+    ensures active { IfOk result (λ r. is_reshaping r.parts.members.newest ≡ true) }
+    ensures left_still { IfErr result (λ e. is_reshaping e.0.parts.members.newest ≡ false) }
     ensures given { IfOk result (λ r. B.given r.parts.bank ≡ B.given still.parts.bank) }
     ensures refused { IfErr result (λ e. IsGivenBack B.tells (B.given still.parts.bank) (B.tape still.parts.bank) (B.tape e.0.parts.bank) who e.2 still e.0) }
     ensures caused { IfErr result (λ e. IsBeginRefused (B.faults_of still.parts.bank) (B.faults_of e.0.parts.bank) to e.2 still e.0) }
@@ -235,7 +236,7 @@ pub fn begin_reshape<B: Bank>(
     ensures left_given { IfErr result (λ e. B.given e.0.parts.bank ≡ B.given still.parts.bank) }
     ensures window { IfErr result (λ e. e.1 ≡ window) }
 {
-    let mut pieces = still.take_apart();
+    let mut pieces = still.part_fixed();
     if let Some(refusal) = unbegun(&pieces.members, &to) {
         return Err((give_back(pieces, who, refusal), window, refusal));
     }
@@ -259,7 +260,7 @@ pub fn begin_reshape<B: Bank>(
     let end = pieces.bank.ops();
     if let Some(refusal) = begun.refusal {
         append_entry(&mut pieces.epoch, who, end, Event::Refused { refusal });
-        return Err((Still::of_pieces(pieces), window, refusal));
+        return Err((Array::of_fixed(pieces), window, refusal));
     }
     let told = told_of(&pieces.members, &to, &behind, begun.spares);
     enter_begun(&mut pieces.epoch, who, end, &told);
@@ -268,5 +269,5 @@ pub fn begin_reshape<B: Bank>(
         window: Window::Closed,
         zeroed: 0,
     };
-    Ok(Moving::of_pieces(pieces, backup, course, window))
+    Ok(Array::of_reshaping(pieces, backup, course, window))
 }

@@ -1,9 +1,9 @@
 //! A reshape ends in an array that is in one.
 
-ghost use Rattle.std.specs.Prelude.{◌≡◌, ◌≢◌, ◌+◌, ◌*◌, ◌^◌, ◌<◌, ◌≤◌, ◌&&◌, ◌||◌, ◌++◌, ◌∷◌, [], ℕ, true, not, nat_lt, length, Some, IfOk, IfErr, IfSome, IsTrue};
+ghost use Rattle.std.specs.Prelude.{◌≡◌, ◌≢◌, ◌+◌, ◌*◌, ◌^◌, ◌<◌, ◌≤◌, ◌&&◌, ◌||◌, ◌++◌, ◌∷◌, [], ℕ, true, not, nat_lt, length, Some, IfOk, IfErr, IfSome, IsTrue, false};
 ghost use Rattle.array_reshaping_steps.specs.raid_types_Shapes.{has_slot, is_valid_shape, data_disks};
 ghost use Rattle.array_reshaping_steps.specs.reshape_plan_Plans.{AreSound};
-ghost use Rattle.array_reshaping_steps.specs.sb_specs_Reading.{shape_of, final_shape, list_length, role_count, role_state, holder};
+ghost use Rattle.array_reshaping_steps.specs.sb_specs_Reading.{shape_of, final_shape, list_length, role_count, role_state, holder, is_reshaping};
 ghost use Rattle.array_reshaping_steps.specs.stripe_row_Rows.{reading_of};
 ghost use Rattle.array_reshaping_steps.specs.history_the_Event_TheVariants.{Step, Refused};
 ghost use Rattle.array_reshaping_steps.specs.history_the_StepKind_TheVariants.{Finished as HasFinished};
@@ -24,13 +24,8 @@ ghost use Rattle.array_reshaping_steps.specs.array_specs_Plans.{ArePlansKept};
 ghost use Rattle.array_transition.specs.Ended.{ended_length, IsReshapeEnded};
 
 use crate::beginning::check_going;
-use array_fixed_sync::Still;
-use array_reshaping_steps::{
-    Bank, Epoch, Event, Finished, Members, Moving, PhasesLeft, Refusal, Role, StepKind, Who, Work,
-    append_after_losses, append_entry, append_lost, final_in, finish, list_length, list_sectors,
-    newly_unassigned, planned_left, shape_in, steps_left, too_many, unassigned_roles, with,
-    without,
-};
+use array_fixed_sync::Array;
+use array_reshaping_steps::{Bank, Epoch, Event, Finished, Members, Array, PhasesLeft, Refusal, Role, StepKind, Who, Work, append_after_losses, append_entry, append_lost, final_in, finish, list_length, list_sectors, newly_unassigned, planned_left, shape_in, steps_left, too_many, unassigned_roles, with, without};
 
 // The slots that hold a role below this one.
 fn holders_below(members: &Members, disks: u32) -> u32
@@ -178,15 +173,18 @@ fn enter_ended(epoch: &mut Epoch, who: Who, end: u64, left: u64, told: &EndTold)
 /// Refused `TooManyMissing` where a shape in force misses more roles than it tolerates, before the flush or behind it: the
 /// reshape goes on as it was, but for what the flush lost.
 pub fn finish_reshape<B: Bank>(
-    moving: Moving<B>,
+    moving: Array<B>,
     who: Who,
-) -> Result<Still<B>, (Moving<B>, Refusal)>
+) -> Result<Array<B>, (Array<B>, Refusal)>
     requires open { IsCallGoing moving.parts.entries who }
     requires caller { who.caller ≢ 254 }
     requires room { 2 ≤ moving.parts.steps }
     requires due { due_of moving.parts.members.newest moving.course moving.parts.work.resync ≡ Finish }
     requires plans { ArePlansKept B.tells (moving_world (B.given moving.parts.bank) (B.tape moving.parts.bank) moving) moving }
+    requires active { is_reshaping moving.parts.members.newest ≡ true }
     ensures ended { IfOk result (λ r. IsReshapeEnded B.tells (B.given moving.parts.bank) (B.tape moving.parts.bank) (B.tape r.parts.bank) (B.faults_of moving.parts.bank) (B.faults_of r.parts.bank) who moving r) }
+    ensures still { IfOk result (λ r. is_reshaping r.parts.members.newest ≡ false) }
+    ensures left_active { IfErr result (λ e. is_reshaping e.0.parts.members.newest ≡ true) }
     ensures given { IfOk result (λ r. B.given r.parts.bank ≡ B.given moving.parts.bank) }
     ensures refused { IfErr result (λ e. IsBehind who moving.parts.entries e.0.parts.entries (Refused e.1)) }
     ensures caused { IfErr result (λ e. AreTooMany e.0.parts.members e.1) }
@@ -195,7 +193,7 @@ pub fn finish_reshape<B: Bank>(
     ensures steps { IfErr result (λ e. e.0.parts.steps + 2 ≡ moving.parts.steps) }
     ensures left_given { IfErr result (λ e. B.given e.0.parts.bank ≡ B.given moving.parts.bank) }
 {
-    let (mut pieces, course, window) = moving.take_apart();
+    let (mut pieces, course, window) = moving.part_reshaping();
     let Some(backup) = pieces.backup else {
         unreachable!()
     };
@@ -204,7 +202,7 @@ pub fn finish_reshape<B: Bank>(
     if let Some(refusal) = too_many(&pieces.members) {
         let end = pieces.bank.ops();
         append_entry(&mut pieces.epoch, who, end, Event::Refused { refusal });
-        return Err((Moving::of_pieces(pieces, backup, course, window), refusal));
+        return Err((Array::of_reshaping(pieces, backup, course, window), refusal));
     }
     let was = before_end(&pieces.members);
     let done = finish(&mut pieces.members, &mut pieces.bank);
@@ -213,10 +211,10 @@ pub fn finish_reshape<B: Bank>(
         let roles = newly_unassigned(&pieces.members, was.count, was.vacant);
         let event = Event::Refused { refusal };
         append_after_losses(&mut pieces.epoch, who, end, roles, done.spares, event);
-        return Err((Moving::of_pieces(pieces, backup, course, window), refusal));
+        return Err((Array::of_reshaping(pieces, backup, course, window), refusal));
     }
     let left = ended_left(&pieces.members, &pieces.work, &pieces.ahead);
     let told = told_of(&pieces.members, &was, &done);
     enter_ended(&mut pieces.epoch, who, end, left, &told);
-    Ok(Still::of_pieces(pieces))
+    Ok(Array::of_fixed(pieces))
 }

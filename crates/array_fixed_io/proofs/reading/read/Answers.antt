@@ -3,59 +3,60 @@ use Rattle.std.specs.Prelude.{IsTrue}
 use Rattle.std.proofs.Math.Nat.{le_trans}
 use Rattle.std.proofs.lemmas.List.{take-append-le}
 use Rattle.std.specs.Vec.{with_items}
-use Rattle.array_fixed.specs.raid_types_Sectors.{Sector, sectors_of, IsWhole}
-use Rattle.array_fixed.specs.raid_types_Shapes.{data_disks, is_multiple}
-use Rattle.array_fixed.proofs.raid_types_SectorLaws.{length-sectors_of}
-use Rattle.array_fixed.specs.raid_types_the_Shape.{Shape}
-use Rattle.array_fixed.proofs.raid_layout_Limits.{limited}
-use Rattle.array_fixed.specs.sb_specs_Reading.{shape_of, list_length, is_clean}
-use Rattle.array_fixed.specs.history_the_Entry.{Entry}
-use Rattle.array_fixed.specs.history_the_Event_TheVariants.{Read, Refused}
-use Rattle.array_fixed.specs.history_the_Request_TheVariants.{Read as AsksRead}
-use Rattle.array_fixed.specs.history_World.{opening_list}
-use Rattle.array_fixed.specs.history_Flat.{next_number, now}
-use Rattle.array_fixed.specs.history_Plain.{entries_of}
-use Rattle.array_fixed.proofs.crash_views_Stands.{list-still}
-use Rattle.array_fixed.specs.array_members_Lacking.{IsUnread, synced_rows, HaveRolesFailed}
-use Rattle.array_fixed.specs.array_members_Placed.{places_of, AreWhole}
-use Rattle.array_fixed.specs.array_members_Rows.{row_sector}
-use Rattle.array_fixed.specs.array_members_Whole.{list_size}
-use Rattle.array_fixed.proofs.array_members_Fit.{valid, short, multiple}
-use Rattle.array_fixed.proofs.array_members_LackingLaws.{lost-since, shape-without}
-use Rattle.array_fixed.proofs.array_members_LackingLists.{row-sector}
-use Rattle.array_fixed.proofs.array_members_MemberLaws.{list-few}
-use Rattle.array_fixed.proofs.array_members_MovedLaws.{grows-none, moved-same}
-use Rattle.array_fixed.proofs.array_members_Still.{count-still, without-still}
-use Rattle.array_fixed.specs.sb_safe_updates_First.{read_refusal}
-use Rattle.array_fixed.specs.history_append_Losing.{losses_of}
-use Rattle.array_fixed.proofs.history_append_CallLaws.{losses-are, torn-losses}
-use Rattle.array_fixed.specs.array_call_specs_Kept.{scope_in}
-use Rattle.array_fixed.proofs.array_call_specs_LossLaws.{losses-behind, ended-behind}
-use Rattle.array_fixed.proofs.array_call_specs_ReadyLaws.{scope-same}
-use Rattle.array_fixed.proofs.array_call_specs_ReplyLaws.{inside-losses, replied, unread-of, refused-for}
-use Rattle.array_fixed.proofs.array_call_laws_ReadLaws.{some-of}
-use Rattle.array_fixed.proofs.array_state_FirstLaws.{call-within}
-use Rattle.array_fixed.specs.history_invariant_Safe.{world_in, IsFilledRight}
-use Rattle.array_fixed.proofs.history_invariant_Records.{begins-going}
-use Rattle.array_fixed.proofs.array_fixed_invariant_Leaving.{rest-moved}
-use Rattle.array_fixed.proofs.array_fixed_invariant_Reading.{read-stands}
-use Rattle.array_fixed.proofs.array_fixed_invariant_Staying.{IsNamedStill, refused-stands}
-use Rattle.array_fixed.proofs.array_fixed_invariant_Stood.{mended-moved}
-use Rattle.array_fixed.proofs.array_members_LiveLeft.{without-left}
-use Rattle.array_fixed.specs.array_specs_Calls.{moving_world}
-use Rattle.array_fixed.proofs.array_specs_Called.{not_254, called, alone-lossless, risen-told}
-use Rattle.array_fixed.specs.array_specs_Parts.{visible_size, still_left}
-use Rattle.array_fixed.proofs.array_specs_Lengths.{alone-keeps, behind-keeps}
-use Rattle.array_fixed.proofs.array_specs_Replies.{refused_reply, lost_reply, read_kind}
-use Rattle.array_fixed.proofs.array_specs_VisibleLaws.{visible-within}
-use Rattle.array_fixed.proofs.array_fixed_laws_Asking.{refused-alone}
-use Rattle.array_fixed.proofs.array_fixed_laws_Kept.{ready, rows-same, rows-moved, with-buffers, roomier}
-use Rattle.array_fixed.proofs.array_fixed_laws_PlainBehind.{unread-plain, plain-refused, plain-read, first-plain}
-use Rattle.array_fixed.proofs.array_fixed_laws_Left.{left-alike}
-use Rattle.array_fixed.proofs.array_fixed_laws_Reading.{seen, unread-still, refused-first, fetched-holds, read-holds}
-use Rattle.array_fixed.proofs.Asked.{known-at, known-behind, room-49, room-1, whole-alike, scratch-fits, entries-alike, undone-called}
-use Rattle.array_fixed.specs.stripe_row_Rows.{present}
-use Rattle.array_fixed.specs.crash_safety_laws_Marking.{AreOthersPresent}
+use Rattle.array_type.specs.raid_types_Sectors.{Sector, sectors_of, IsWhole}
+use Rattle.array_type.specs.raid_types_Shapes.{data_disks, is_multiple}
+use Rattle.array_type.proofs.raid_types_SectorLaws.{length-sectors_of}
+use Rattle.array_type.specs.raid_types_the_Shape.{Shape}
+use Rattle.array_type.proofs.raid_layout_Limits.{limited}
+use Rattle.array_type.specs.sb_specs_Reading.{shape_of, list_length, is_clean, is_reshaping}
+use Rattle.array_type.specs.history_the_Entry.{Entry}
+use Rattle.array_type.specs.history_the_Event_TheVariants.{Read, Refused}
+use Rattle.array_type.specs.history_the_Request_TheVariants.{Read as AsksRead}
+use Rattle.array_type.specs.history_World.{opening_list}
+use Rattle.array_type.specs.history_Flat.{next_number, now}
+use Rattle.array_type.specs.history_Plain.{entries_of}
+use Rattle.array_type.proofs.crash_views_Stands.{list-still}
+use Rattle.array_type.specs.array_members_Lacking.{IsUnread, synced_rows, HaveRolesFailed}
+use Rattle.array_type.specs.array_members_Placed.{places_of, AreWhole}
+use Rattle.array_type.specs.array_members_Rows.{row_sector}
+use Rattle.array_type.specs.array_members_Whole.{list_size}
+use Rattle.array_type.proofs.array_members_Fit.{valid, short, multiple}
+use Rattle.array_type.proofs.array_members_LackingLaws.{lost-since, shape-without}
+use Rattle.array_type.proofs.array_members_LackingLists.{row-sector}
+use Rattle.array_type.proofs.array_members_MemberLaws.{list-few}
+use Rattle.array_type.proofs.array_members_MovedLaws.{grows-none, moved-same}
+use Rattle.array_type.proofs.array_members_Still.{count-still, without-still}
+use Rattle.array_type.specs.sb_safe_updates_First.{read_refusal}
+use Rattle.array_type.specs.history_append_Losing.{losses_of}
+use Rattle.array_type.proofs.history_append_CallLaws.{losses-are, torn-losses}
+use Rattle.array_type.specs.array_call_specs_Kept.{scope_in}
+use Rattle.array_type.proofs.array_call_specs_LossLaws.{losses-behind, ended-behind}
+use Rattle.array_type.proofs.array_call_specs_ReadyLaws.{scope-same}
+use Rattle.array_type.proofs.array_call_specs_ReplyLaws.{inside-losses, replied, unread-of, refused-for}
+use Rattle.array_type.proofs.array_call_laws_ReadLaws.{some-of}
+use Rattle.array_type.proofs.array_state_FirstLaws.{call-within}
+use Rattle.array_type.specs.history_invariant_Safe.{world_in, IsFilledRight}
+use Rattle.array_type.proofs.history_invariant_Records.{begins-going}
+use Rattle.array_type.proofs.array_fixed_invariant_Leaving.{rest-moved}
+use Rattle.array_type.proofs.array_fixed_invariant_Reading.{read-stands}
+use Rattle.array_type.proofs.array_fixed_invariant_Staying.{IsNamedStill, refused-stands}
+use Rattle.array_type.proofs.array_fixed_invariant_Stood.{mended-moved}
+use Rattle.array_type.proofs.array_members_LiveLeft.{without-left}
+use Rattle.array_type.specs.array_specs_Calls.{moving_world}
+use Rattle.array_type.proofs.array_specs_Called.{not_254, called, alone-lossless, risen-told}
+use Rattle.array_type.specs.array_specs_Parts.{visible_size, still_left}
+use Rattle.array_type.proofs.array_specs_Lengths.{alone-keeps, behind-keeps}
+use Rattle.array_type.proofs.array_specs_Replies.{refused_reply, lost_reply, read_kind}
+use Rattle.array_type.proofs.array_specs_VisibleLaws.{visible-within}
+use Rattle.array_type.proofs.array_fixed_laws_Asking.{refused-alone}
+use Rattle.array_type.proofs.array_fixed_laws_Kept.{ready, rows-same, rows-moved, with-buffers, roomier}
+use Rattle.array_type.proofs.array_fixed_laws_PlainBehind.{unread-plain, plain-refused, plain-read, first-plain}
+use Rattle.array_type.proofs.array_fixed_laws_Left.{left-alike}
+use Rattle.array_type.proofs.array_fixed_laws_Reading.{seen, unread-still, refused-first, fetched-holds, read-holds}
+use Rattle.array_type.proofs.Asked.{known-at, known-behind, room-49, room-1, whole-alike, scratch-fits, entries-alike, undone-called}
+use Rattle.array_type.specs.stripe_row_Rows.{present}
+use Rattle.array_type.specs.crash_safety_laws_Marking.{AreOthersPresent}
+use Rattle.array_type.proofs.Alike.{alike, stays-at-rest}
 use Rattle.array_fixed_io.proofs.reading.read.Goals as goal
 
 -- bytes that were written whole
@@ -70,7 +71,8 @@ asked-is bytes slice into len same = ap (λ (l : List ℕ). length l / 512) same
 
 pub invariant_of-still-in-Some : goal.invariant_of-still-in-Some
 invariant_of-still-in-Some g c =
-    let was = c.still.invariant in
+    stays-at-rest (c.still.invariant.rests (ap (λ p. is_reshaping p.parts.members.newest) c.still.view_is ∙ c.requires.still)).0 (
+    let was = (c.still.invariant.rests (ap (λ p. is_reshaping p.parts.members.newest) c.still.view_is ∙ c.requires.still)).1 in
     let a = c.still.inside in
     let given = g.B.Bank.given a.bank in
     let number : c.args.who.number ≡ next_number c.args.who.caller a.epoch.entries.items = c.requires.next ∙ ap (λ p. next_number c.args.who.caller p.parts.entries) (sym c.still.view_is) in
@@ -85,11 +87,11 @@ invariant_of-still-in-Some g c =
     (λ within. unread-plain given a.members was.kept.members_are a.work.resync (visible_size a.members a.limit) c.args.at count refusal within) c.in-Some.ensures.why)
     (λ slot. omega arith) (alone-keeps c.args.who c.ops-end.result (Refused refusal) (λ n. refl) (λ limit. refl))
     refl (scope-same given a.backup refl c.append_entry.ensures.uuid c.append_entry.ensures.given) c.append_entry.ensures.first c.make_room.ensures.items c.append_entry.ensures.items
-    (omega (arith, c.append_entry.ensures.room, c.in-Ok-make_room.ensures.ok))
+    (omega (arith, c.append_entry.ensures.room, c.in-Ok-make_room.ensures.ok)))
 
 pub returns-in-Some-clause-answered : goal.returns-in-Some-clause-answered
 returns-in-Some-clause-answered g c =
-    let was = c.still.invariant in
+    let was = (alike c.still.invariant) in
     let a = c.still.inside in
     let number : c.args.who.number ≡ next_number c.args.who.caller a.epoch.entries.items = c.requires.next ∙ ap (λ p. next_number c.args.who.caller p.parts.entries) (sym c.still.view_is) in
     let count = length c.args.into.now / 512 in
@@ -100,7 +102,7 @@ returns-in-Some-clause-answered g c =
 
 pub returns-in-Some-clause-called : goal.returns-in-Some-clause-called
 returns-in-Some-clause-called g c =
-    let was = c.still.invariant in
+    let was = (alike c.still.invariant) in
     let a = c.still.inside in
     let given = g.B.Bank.given a.bank in
     let faults = g.B.Bank.faults_of a.bank in
@@ -124,14 +126,14 @@ returns-in-Some-clause-first g c = rw (← c.still.view_is) (sym c.in-Some.ensur
 pub unassigned_roles-before-requires-clause-few : goal.unassigned_roles-before-requires-clause-few
 unassigned_roles-before-requires-clause-few g c =
     let a = c.still.inside in
-    let most = (limited (shape_of a.members.newest) (valid (g.B.Bank.given a.bank) a.members c.still.invariant.kept.members_are.placed)).most in
+    let most = (limited (shape_of a.members.newest) (valid (g.B.Bank.given a.bank) a.members (alike c.still.invariant).kept.members_are.placed)).most in
     let disks = ap (λ (s : Shape). s.disks) c.shape_in-shape.ensures in
     omega (arith, most, disks)
 
 pub newly_unassigned-roles-requires-clause-few : goal.newly_unassigned-roles-requires-clause-few
 newly_unassigned-roles-requires-clause-few g c =
     let a = c.still.inside in
-    let most = (limited (shape_of a.members.newest) (valid (g.B.Bank.given a.bank) a.members c.still.invariant.kept.members_are.placed)).most in
+    let most = (limited (shape_of a.members.newest) (valid (g.B.Bank.given a.bank) a.members (alike c.still.invariant).kept.members_are.placed)).most in
     let disks = ap (λ (s : Shape). s.disks) c.shape_in-shape.ensures in
     omega (arith, most, disks)
 
@@ -145,7 +147,7 @@ read_listed-fetched-requires-clause-within g c =
     let m = c.still.inside.members in
     let same = asked-is c.in-Ok.bytes.items c.as_mut_slice.result.now c.args.into.now c.in-Ok.ensures.len c.as_mut_slice.ensures.value in
     let below : c.args.at + length c.args.into.now / 512 ≤ data_disks (shape_of m.newest) * m.newest.size =
-    subst (λ (n : ℕ). c.args.at + length c.args.into.now / 512 ≤ n) (list-still m.newest c.still.invariant.kept.members_are.still)
+    subst (λ (n : ℕ). c.args.at + length c.args.into.now / 512 ≤ n) (list-still m.newest (c.still.invariant.rests (ap (λ p. is_reshaping p.parts.members.newest) c.still.view_is ∙ c.requires.still)).1.kept.members_are.still)
     (le_trans c.in_default.ensures.why.0 (visible-within (list_length m.newest) c.still.inside.limit)) in
     subst (λ (s : Shape). c.args.at + length c.as_mut_slice.result.now / 512 ≤ data_disks s * m.newest.size) (sym c.shape_in-shape.ensures)
     (subst (λ (n : ℕ). c.args.at + n ≤ data_disks (shape_of m.newest) * m.newest.size) (sym same) below)
@@ -159,10 +161,10 @@ read_listed-fetched-requires-clause-stripes g c =
 pub read_listed-fetched-requires-clause-short : goal.read_listed-fetched-requires-clause-short
 read_listed-fetched-requires-clause-short g c =
     let m = c.still.inside.members in
-    let few = list-few (g.B.Bank.given c.still.inside.bank) m c.still.invariant.kept.members_are.placed in
+    let few = list-few (g.B.Bank.given c.still.inside.bank) m (c.still.invariant.rests (ap (λ p. is_reshaping p.parts.members.newest) c.still.view_is ∙ c.requires.still)).1.kept.members_are.placed in
     let same = asked-is c.in-Ok.bytes.items c.as_mut_slice.result.now c.args.into.now c.in-Ok.ensures.len c.as_mut_slice.ensures.value in
     let below : c.args.at + length c.args.into.now / 512 ≤ list_size (places_of m) =
-    subst (λ (n : ℕ). c.args.at + length c.args.into.now / 512 ≤ n) (list-still m.newest c.still.invariant.kept.members_are.still)
+    subst (λ (n : ℕ). c.args.at + length c.args.into.now / 512 ≤ n) (list-still m.newest (c.still.invariant.rests (ap (λ p. is_reshaping p.parts.members.newest) c.still.view_is ∙ c.requires.still)).1.kept.members_are.still)
     (le_trans c.in_default.ensures.why.0 (visible-within (list_length m.newest) c.still.inside.limit)) in
     omega (arith, few, same, below)
 
@@ -170,7 +172,8 @@ read_listed-fetched-requires-clause-short g c =
 
 pub invariant_of-still-in-Some-refusal : goal.invariant_of-still-in-Some-refusal
 invariant_of-still-in-Some-refusal g c =
-    let was = c.still.invariant in
+    stays-at-rest (c.still.invariant.rests (ap (λ p. is_reshaping p.parts.members.newest) c.still.view_is ∙ c.requires.still)).0 (
+    let was = (c.still.invariant.rests (ap (λ p. is_reshaping p.parts.members.newest) c.still.view_is ∙ c.requires.still)).1 in
     let here = was.kept.members_are in
     let a = c.still.inside in
     let given = g.B.Bank.given a.bank in
@@ -210,11 +213,11 @@ invariant_of-still-in-Some-refusal g c =
     (unread-plain given m (rest-moved given a.members m did.keeps.moved here) a.work.resync (visible_size a.members a.limit) c.args.at count refusal inside unread))
     did.keeps.bank.counts (behind-keeps c.args.who end roles spares (Refused refusal ∷ []) (alone-keeps c.args.who end (Refused refusal) (λ n. refl) (λ limit. refl)))
     did.keeps.bank.same (scope-same given a.backup did.keeps.bank.same c.append_after_losses.ensures.uuid c.append_after_losses.ensures.given) c.append_after_losses.ensures.first c.make_room.ensures.items c.append_after_losses.ensures.items
-    (omega (arith, c.append_after_losses.ensures.room, c.in-Ok-make_room.ensures.ok)))
+    (omega (arith, c.append_after_losses.ensures.room, c.in-Ok-make_room.ensures.ok))))
 
 pub returns-in-Some-refusal-clause-answered : goal.returns-in-Some-refusal-clause-answered
 returns-in-Some-refusal-clause-answered g c =
-    let was = c.still.invariant in
+    let was = (alike c.still.invariant) in
     let a = c.still.inside in
     let number : c.args.who.number ≡ next_number c.args.who.caller a.epoch.entries.items = c.requires.next ∙ ap (λ p. next_number c.args.who.caller p.parts.entries) (sym c.still.view_is) in
     let m = c.read_listed-fetched.new.members in
@@ -231,7 +234,7 @@ returns-in-Some-refusal-clause-answered g c =
 
 pub returns-in-Some-refusal-clause-called : goal.returns-in-Some-refusal-clause-called
 returns-in-Some-refusal-clause-called g c =
-    let was = c.still.invariant in
+    let was = (c.still.invariant.rests (ap (λ p. is_reshaping p.parts.members.newest) c.still.view_is ∙ c.requires.still)).1 in
     let here = was.kept.members_are in
     let a = c.still.inside in
     let given = g.B.Bank.given a.bank in
@@ -284,19 +287,23 @@ pub returns-in-Some-refusal-clause-tape : goal.returns-in-Some-refusal-clause-ta
 returns-in-Some-refusal-clause-tape g c = λ whole t. c.read_listed-fetched.ensures.tape whole t ∙ ap (λ p. g.B.Bank.tape p.parts.bank) c.still.view_is
 
 pub returns-in-Some-refusal-clause-others : goal.returns-in-Some-refusal-clause-others
-returns-in-Some-refusal-clause-others g c = subst (λ p. g.B.Bank.tells → AreOthersPresent (present (g.B.Bank.given p.parts.bank) (g.B.Bank.tape p.parts.bank)) (present (g.B.Bank.given p.parts.bank) (g.B.Bank.tape c.read_listed-fetched.new.bank))) c.still.view_is c.read_listed-fetched.ensures.others
+returns-in-Some-refusal-clause-others g c =
+    subst (λ p. g.B.Bank.tells → AreOthersPresent (present (g.B.Bank.given p.parts.bank) (g.B.Bank.tape p.parts.bank)) (present (g.B.Bank.given p.parts.bank) (g.B.Bank.tape c.read_listed-fetched.new.bank))) c.still.view_is c.read_listed-fetched.ensures.others
 
 pub returns-in-Some-refusal-clause-failed : goal.returns-in-Some-refusal-clause-failed
-returns-in-Some-refusal-clause-failed g c = subst (λ p. HaveRolesFailed p.parts.members c.read_listed-fetched.new.members (g.B.Bank.faults_of p.parts.bank) (g.B.Bank.faults_of c.read_listed-fetched.new.bank)) c.still.view_is c.read_listed-fetched.ensures.keeps.failed.roles
+returns-in-Some-refusal-clause-failed g c =
+    subst (λ p. HaveRolesFailed p.parts.members c.read_listed-fetched.new.members (g.B.Bank.faults_of p.parts.bank) (g.B.Bank.faults_of c.read_listed-fetched.new.bank)) c.still.view_is c.read_listed-fetched.ensures.keeps.failed.roles
 
 pub returns-in-Some-refusal-clause-whole : goal.returns-in-Some-refusal-clause-whole
-returns-in-Some-refusal-clause-whole g c = subst (λ p. AreWhole c.read_listed-fetched.new.members → AreWhole p.parts.members) c.still.view_is c.read_listed-fetched.ensures.keeps.moved.whole
+returns-in-Some-refusal-clause-whole g c =
+    subst (λ p. AreWhole c.read_listed-fetched.new.members → AreWhole p.parts.members) c.still.view_is c.read_listed-fetched.ensures.keeps.moved.whole
 
 -- ---- done
 
 pub invariant_of-still-2 : goal.invariant_of-still-2
 invariant_of-still-2 g c =
-    let was = c.still.invariant in
+    stays-at-rest (c.still.invariant.rests (ap (λ p. is_reshaping p.parts.members.newest) c.still.view_is ∙ c.requires.still)).0 (
+    let was = (c.still.invariant.rests (ap (λ p. is_reshaping p.parts.members.newest) c.still.view_is ∙ c.requires.still)).1 in
     let here = was.kept.members_are in
     let a = c.still.inside in
     let given = g.B.Bank.given a.bank in
@@ -333,7 +340,7 @@ invariant_of-still-2 g c =
     did.keeps.bank.counts (behind-keeps c.args.who end roles spares (Read c.args.at (sectors_of bytes) ∷ []) (alone-keeps c.args.who end (Read c.args.at (sectors_of bytes)) (λ n. refl) (λ limit. refl)))
     did.keeps.bank.same (scope-same given a.backup did.keeps.bank.same c.append_after_losses-2.ensures.uuid c.append_after_losses-2.ensures.given) c.append_after_losses-2.ensures.first c.make_room.ensures.items
     (c.append_after_losses-2.ensures.items ∙ ap (λ (b : List Sector). c.make_room.new.self.items ++ entries_of c.args.who end (losses_of roles spares ++ Read c.args.at b ∷ [])) (c.from_bytes-body.ensures ∙ ap sectors_of whole))
-    (omega (arith, c.append_after_losses-2.ensures.room, c.in-Ok-make_room.ensures.ok)))
+    (omega (arith, c.append_after_losses-2.ensures.room, c.in-Ok-make_room.ensures.ok))))
 
 pub returns-clause-answered : goal.returns-clause-answered
 returns-clause-answered g c =
@@ -352,8 +359,9 @@ returns-clause-answered g c =
     number (λ call. (refl, count)) (inside-losses c.args.who end (losses_of roles spares) (losses-are roles spares)) (torn-losses (AsksRead c.args.at (length c.args.into.now / 512)) c.args.who end (losses_of roles spares) (losses-are roles spares)))
 
 pub returns-clause-holds : goal.returns-clause-holds
-returns-clause-holds g c = λ t fills i lt.
-    let was = c.still.invariant in
+returns-clause-holds g c =
+    λ t fills i lt.
+    let was = (c.still.invariant.rests (ap (λ p. is_reshaping p.parts.members.newest) c.still.view_is ∙ c.requires.still)).1 in
     let here = was.kept.members_are in
     let a = c.still.inside in
     let given = g.B.Bank.given a.bank in
@@ -384,7 +392,7 @@ returns-clause-holds g c = λ t fills i lt.
 
 pub returns-clause-called : goal.returns-clause-called
 returns-clause-called g c =
-    let was = c.still.invariant in
+    let was = (c.still.invariant.rests (ap (λ p. is_reshaping p.parts.members.newest) c.still.view_is ∙ c.requires.still)).1 in
     let here = was.kept.members_are in
     let a = c.still.inside in
     let given = g.B.Bank.given a.bank in
@@ -409,16 +417,19 @@ pub returns-clause-tape : goal.returns-clause-tape
 returns-clause-tape g c = λ whole t. c.read_listed-fetched.ensures.tape whole t ∙ ap (λ p. g.B.Bank.tape p.parts.bank) c.still.view_is
 
 pub returns-clause-others : goal.returns-clause-others
-returns-clause-others g c = subst (λ p. g.B.Bank.tells → AreOthersPresent (present (g.B.Bank.given p.parts.bank) (g.B.Bank.tape p.parts.bank)) (present (g.B.Bank.given p.parts.bank) (g.B.Bank.tape c.read_listed-fetched.new.bank))) c.still.view_is c.read_listed-fetched.ensures.others
+returns-clause-others g c =
+    subst (λ p. g.B.Bank.tells → AreOthersPresent (present (g.B.Bank.given p.parts.bank) (g.B.Bank.tape p.parts.bank)) (present (g.B.Bank.given p.parts.bank) (g.B.Bank.tape c.read_listed-fetched.new.bank))) c.still.view_is c.read_listed-fetched.ensures.others
 
 pub returns-clause-caused : goal.returns-clause-caused
 returns-clause-caused g c = rw (← c.still.view_is) c.in_default.ensures.why
 
 pub returns-clause-failed : goal.returns-clause-failed
-returns-clause-failed g c = subst (λ p. HaveRolesFailed p.parts.members c.read_listed-fetched.new.members (g.B.Bank.faults_of p.parts.bank) (g.B.Bank.faults_of c.read_listed-fetched.new.bank)) c.still.view_is c.read_listed-fetched.ensures.keeps.failed.roles
+returns-clause-failed g c =
+    subst (λ p. HaveRolesFailed p.parts.members c.read_listed-fetched.new.members (g.B.Bank.faults_of p.parts.bank) (g.B.Bank.faults_of c.read_listed-fetched.new.bank)) c.still.view_is c.read_listed-fetched.ensures.keeps.failed.roles
 
 pub returns-clause-whole : goal.returns-clause-whole
-returns-clause-whole g c = subst (λ p. AreWhole c.read_listed-fetched.new.members → AreWhole p.parts.members) c.still.view_is c.read_listed-fetched.ensures.keeps.moved.whole
+returns-clause-whole g c =
+    subst (λ p. AreWhole c.read_listed-fetched.new.members → AreWhole p.parts.members) c.still.view_is c.read_listed-fetched.ensures.keeps.moved.whole
 
 pub returns-clause-first : goal.returns-clause-first
 returns-clause-first g c = rw (← c.still.view_is) (sym c.in_default.ensures.first)
@@ -426,19 +437,21 @@ returns-clause-first g c = rw (← c.still.view_is) (sym c.in_default.ensures.fi
 -- ---- what the calls ask
 
 pub check_number-requires : goal.check_number-requires
-check_number-requires g c = c.requires.next ∙ ap (λ p. next_number c.args.who.caller p.parts.entries) (sym c.still.view_is) ∙ ap (λ (l : List Entry). next_number c.args.who.caller l) (sym c.make_room.ensures.items)
+check_number-requires g c =
+    c.requires.next ∙ ap (λ p. next_number c.args.who.caller p.parts.entries) (sym c.still.view_is) ∙ ap (λ (l : List Entry). next_number c.args.who.caller l) (sym c.make_room.ensures.items)
 
 pub unread_here-requires-clause-shape : goal.unread_here-requires-clause-shape
-unread_here-requires-clause-shape g c = c.still.invariant.kept.members_are.placed.fit.valid.old
+unread_here-requires-clause-shape g c = (alike c.still.invariant).kept.members_are.placed.fit.valid.old
 
 pub unread_here-requires-clause-multiple : goal.unread_here-requires-clause-multiple
-unread_here-requires-clause-multiple g c = multiple (g.B.Bank.given c.still.inside.bank) c.still.inside.members c.still.invariant.kept.members_are.placed
+unread_here-requires-clause-multiple g c = multiple (g.B.Bank.given c.still.inside.bank) c.still.inside.members (alike c.still.invariant).kept.members_are.placed
 
 pub unread_here-requires-clause-size : goal.unread_here-requires-clause-size
-unread_here-requires-clause-size g c = short (g.B.Bank.given c.still.inside.bank) c.still.inside.members c.still.invariant.kept.members_are.placed
+unread_here-requires-clause-size g c = short (g.B.Bank.given c.still.inside.bank) c.still.inside.members (alike c.still.invariant).kept.members_are.placed
 
 pub unread_here-requires-clause-progress : goal.unread_here-requires-clause-progress
-unread_here-requires-clause-progress g c = c.still.invariant.kept.progress
+unread_here-requires-clause-progress g c =
+    (c.still.invariant.rests (ap (λ p. is_reshaping p.parts.members.newest) c.still.view_is ∙ c.requires.still)).1.kept.progress
 
 pub append_entry-requires-clause-room : goal.append_entry-requires-clause-room
 append_entry-requires-clause-room g c = room-1 c.in-Ok-make_room.ensures.ok
@@ -447,33 +460,35 @@ pub append_entry-requires-clause-number : goal.append_entry-requires-clause-numb
 append_entry-requires-clause-number g c = c.check_number.ensures
 
 pub shape_in-shape-requires : goal.shape_in-shape-requires
-shape_in-shape-requires g c = c.still.invariant.kept.members_are.placed.fit.valid.old
+shape_in-shape-requires g c = (alike c.still.invariant).kept.members_are.placed.fit.valid.old
 
 pub unassigned_roles-before-requires-clause-known : goal.unassigned_roles-before-requires-clause-known
-unassigned_roles-before-requires-clause-known g c = known-at c.still.invariant.kept.members_are.placed c.shape_in-shape.ensures
+unassigned_roles-before-requires-clause-known g c = known-at (alike c.still.invariant).kept.members_are.placed c.shape_in-shape.ensures
 
 pub synced_rows-mended-requires-clause-shape : goal.synced_rows-mended-requires-clause-shape
-synced_rows-mended-requires-clause-shape g c = c.still.invariant.kept.members_are.placed.fit.valid.old
+synced_rows-mended-requires-clause-shape g c = (alike c.still.invariant).kept.members_are.placed.fit.valid.old
 
 pub synced_rows-mended-requires-clause-multiple : goal.synced_rows-mended-requires-clause-multiple
-synced_rows-mended-requires-clause-multiple g c = multiple (g.B.Bank.given c.still.inside.bank) c.still.inside.members c.still.invariant.kept.members_are.placed
+synced_rows-mended-requires-clause-multiple g c = multiple (g.B.Bank.given c.still.inside.bank) c.still.inside.members (alike c.still.invariant).kept.members_are.placed
 
 pub synced_rows-mended-requires-clause-progress : goal.synced_rows-mended-requires-clause-progress
-synced_rows-mended-requires-clause-progress g c = c.still.invariant.kept.progress
+synced_rows-mended-requires-clause-progress g c =
+    (c.still.invariant.rests (ap (λ p. is_reshaping p.parts.members.newest) c.still.view_is ∙ c.requires.still)).1.kept.progress
 
 pub read_listed-fetched-requires-clause-stands : goal.read_listed-fetched-requires-clause-stands
-read_listed-fetched-requires-clause-stands g c = record {
-  slots = c.still.invariant.kept.slots;
-  placed = c.still.invariant.kept.members_are.placed;
-  unlost = c.still.invariant.kept.members_are.unlost;
-  free = c.still.invariant.kept.members_are.free;
+read_listed-fetched-requires-clause-stands g c =
+    record {
+  slots = (alike c.still.invariant).kept.slots;
+  placed = (alike c.still.invariant).kept.members_are.placed;
+  unlost = (alike c.still.invariant).kept.members_are.unlost;
+  free = (alike c.still.invariant).kept.members_are.free;
 }
 
 pub read_listed-fetched-requires-clause-into : goal.read_listed-fetched-requires-clause-into
 read_listed-fetched-requires-clause-into g c = whole-alike _ _ (ap (λ (l : List ℕ). length l) c.as_mut_slice.ensures.value ∙ c.in-Ok.ensures.len) c.requires.whole
 
 pub read_listed-fetched-requires-clause-scratch : goal.read_listed-fetched-requires-clause-scratch
-read_listed-fetched-requires-clause-scratch g c = scratch-fits c.as_mut_slice-2.ensures.value c.still.invariant.buffer_fits
+read_listed-fetched-requires-clause-scratch g c = scratch-fits c.as_mut_slice-2.ensures.value (alike c.still.invariant).buffer_fits
 
 pub read_listed-fetched-requires-clause-mended : goal.read_listed-fetched-requires-clause-mended
 read_listed-fetched-requires-clause-mended g c = c.synced_rows-mended.ensures.within
@@ -509,14 +524,15 @@ append_after_losses-requires-2-clause-number g c = c.check_number.ensures
 
 pub returns-in-Err-clause-called : goal.returns-in-Err-clause-called
 returns-in-Err-clause-called g c =
-    let kept = c.still.invariant.kept in
+    let kept = (alike c.still.invariant).kept in
     rw (← c.still.view_is) (undone-called kept.members_are.placed kept.members_are.unlost (λ t. (kept.recorded t).ended) (λ t. (kept.recorded t).begun) refl)
 
 pub returns-in-Err-clause-failed : goal.returns-in-Err-clause-failed
 returns-in-Err-clause-failed g c = λ role slot held. inl held
 
 pub invariant_of-still : goal.invariant_of-still
-invariant_of-still g c = roomier c.still.invariant c.make_room.ensures.items c.make_room.ensures.keeps
+invariant_of-still g c =
+    stays-at-rest (c.still.invariant.rests (ap (λ p. is_reshaping p.parts.members.newest) c.still.view_is ∙ c.requires.still)).0 (roomier (c.still.invariant.rests (ap (λ p. is_reshaping p.parts.members.newest) c.still.view_is ∙ c.requires.still)).1 c.make_room.ensures.items c.make_room.ensures.keeps)
 
 pub returns-in-Err-make_room-clause-answered : goal.returns-in-Err-make_room-clause-answered
 returns-in-Err-make_room-clause-answered g c = c.make_room.ensures.items ∙ ap (λ p. p.parts.entries) c.still.view_is
@@ -526,7 +542,7 @@ returns-in-Err-make_room-clause-unchanged g c = entries-alike c.make_room.new.se
 
 pub returns-in-Err-make_room-clause-called : goal.returns-in-Err-make_room-clause-called
 returns-in-Err-make_room-clause-called g c =
-    let kept = c.still.invariant.kept in
+    let kept = (alike c.still.invariant).kept in
     rw (← c.still.view_is) (undone-called kept.members_are.placed kept.members_are.unlost (λ t. (kept.recorded t).ended) (λ t. (kept.recorded t).begun) (entries-alike c.make_room.new.self.items refl c.make_room.ensures.items))
 
 pub returns-in-Err-make_room-clause-whole : goal.returns-in-Err-make_room-clause-whole
@@ -536,7 +552,8 @@ pub returns-in-Err-make_room-clause-caused : goal.returns-in-Err-make_room-claus
 returns-in-Err-make_room-clause-caused g c = ap (λ p. p.parts.members) c.still.view_is
 
 pub returns-in-Err-make_room-clause-failed : goal.returns-in-Err-make_room-clause-failed
-returns-in-Err-make_room-clause-failed g c = subst (λ p. HaveRolesFailed p.parts.members c.still.inside.members (g.B.Bank.faults_of p.parts.bank) (g.B.Bank.faults_of c.still.inside.bank)) c.still.view_is (λ role slot held. inl held)
+returns-in-Err-make_room-clause-failed g c =
+    subst (λ p. HaveRolesFailed p.parts.members c.still.inside.members (g.B.Bank.faults_of p.parts.bank) (g.B.Bank.faults_of c.still.inside.bank)) c.still.view_is (λ role slot held. inl held)
 
 -- ---- what is as it was
 
@@ -544,7 +561,8 @@ pub returns-in-Some-clause-whole : goal.returns-in-Some-clause-whole
 returns-in-Some-clause-whole g c = subst (λ p. AreWhole c.still.inside.members → AreWhole p.parts.members) c.still.view_is (λ whole. whole)
 
 pub returns-in-Some-clause-failed : goal.returns-in-Some-clause-failed
-returns-in-Some-clause-failed g c = subst (λ p. HaveRolesFailed p.parts.members c.still.inside.members (g.B.Bank.faults_of p.parts.bank) (g.B.Bank.faults_of c.still.inside.bank)) c.still.view_is (λ role slot held. inl held)
+returns-in-Some-clause-failed g c =
+    subst (λ p. HaveRolesFailed p.parts.members c.still.inside.members (g.B.Bank.faults_of p.parts.bank) (g.B.Bank.faults_of c.still.inside.bank)) c.still.view_is (λ role slot held. inl held)
 
 pub returns-in-Some-clause-tape : goal.returns-in-Some-clause-tape
 returns-in-Some-clause-tape g c = λ whole t. ap (λ p. g.B.Bank.tape p.parts.bank) c.still.view_is
@@ -566,3 +584,18 @@ returns-clause-clean g c = c.read_listed-fetched.ensures.clean ∙ ap (λ p. is_
 
 pub returns-clause-given : goal.returns-clause-given
 returns-clause-given g c = c.read_listed-fetched.ensures.keeps.bank.same ∙ ap (λ p. g.B.Bank.given p.parts.bank) c.still.view_is
+
+pub returns-in-Some-clause-still : goal.returns-in-Some-clause-still
+returns-in-Some-clause-still g c = (ap (λ p. is_reshaping p.parts.members.newest) c.still.view_is ∙ c.requires.still)
+
+pub returns-in-Some-refusal-clause-still : goal.returns-in-Some-refusal-clause-still
+returns-in-Some-refusal-clause-still g c = c.read_listed-fetched.ensures.keeps.moved.reshape.reshaping ∙ (ap (λ p. is_reshaping p.parts.members.newest) c.still.view_is ∙ c.requires.still)
+
+pub returns-clause-still : goal.returns-clause-still
+returns-clause-still g c = c.read_listed-fetched.ensures.keeps.moved.reshape.reshaping ∙ (ap (λ p. is_reshaping p.parts.members.newest) c.still.view_is ∙ c.requires.still)
+
+pub returns-in-Err-clause-still : goal.returns-in-Err-clause-still
+returns-in-Err-clause-still g c = c.requires.still
+
+pub returns-in-Err-make_room-clause-still : goal.returns-in-Err-make_room-clause-still
+returns-in-Err-make_room-clause-still g c = (ap (λ p. is_reshaping p.parts.members.newest) c.still.view_is ∙ c.requires.still)

@@ -1,12 +1,12 @@
 use Rattle.std.proofs.Common.{◌≤◌, ◌+◌, ◌*◌, ℕ, refl, sym, ◌∙◌, ap₂, subst, arith}
-use Rattle.array_fixed.specs.raid_types_the_Shape.{Shape}
-use Rattle.array_fixed.specs.raid_types_Shapes.{data_disks}
-use Rattle.array_fixed.specs.sb_specs_Reading.{shape_of}
-use Rattle.array_fixed.specs.array_members_Lacking.{synced_rows}
-use Rattle.array_fixed.specs.sb_safe_updates_First.{read_refusal}
-use Rattle.array_fixed.proofs.array_state_FirstLaws.{short-list, past-is, within-is, read-judged}
-use Rattle.array_fixed.specs.array_specs_Parts.{visible_size}
-use Rattle.array_fixed.proofs.array_fixed_laws_Reading.{visible-still}
+use Rattle.array_type.specs.raid_types_the_Shape.{Shape}
+use Rattle.array_type.specs.raid_types_Shapes.{data_disks}
+use Rattle.array_type.specs.sb_specs_Reading.{shape_of}
+use Rattle.array_type.specs.array_members_Lacking.{synced_rows}
+use Rattle.array_type.specs.sb_safe_updates_First.{read_refusal}
+use Rattle.array_type.proofs.array_state_FirstLaws.{short-list, past-is, within-is, read-judged}
+use Rattle.array_type.specs.array_specs_Parts.{visible_size}
+use Rattle.array_type.proofs.array_fixed_laws_Reading.{visible-still}
 use Rattle.array_fixed_io.proofs.reading.unread_here.Goals as goal
 
 pub returns-then-sectors-at-clause-first : goal.returns-then-sectors-at-clause-first

@@ -1,11 +1,11 @@
 use Rattle.std.proofs.Common.{◌≤◌, ◌+◌, Bool, refl, ◌∙◌, ap, ap₂, arith}
-use Rattle.array_fixed.specs.raid_types_the_Shape.{Shape}
-use Rattle.array_fixed.specs.sb_specs_Reading.{shape_of}
-use Rattle.array_fixed.specs.array_members_Lacking.{are_synced, synced_rows}
-use Rattle.array_fixed.specs.sb_safe_updates_First.{write_refusal}
-use Rattle.array_fixed.proofs.array_state_FirstLaws.{past-is, within-is, write-judged}
-use Rattle.array_fixed.specs.array_specs_Parts.{visible_size}
-use Rattle.array_fixed.proofs.array_fixed_laws_Reading.{visible-still}
+use Rattle.array_type.specs.raid_types_the_Shape.{Shape}
+use Rattle.array_type.specs.sb_specs_Reading.{shape_of}
+use Rattle.array_type.specs.array_members_Lacking.{are_synced, synced_rows}
+use Rattle.array_type.specs.sb_safe_updates_First.{write_refusal}
+use Rattle.array_type.proofs.array_state_FirstLaws.{past-is, within-is, write-judged}
+use Rattle.array_type.specs.array_specs_Parts.{visible_size}
+use Rattle.array_type.proofs.array_fixed_laws_Reading.{visible-still}
 use Rattle.array_fixed_io.proofs.writing.unwritten_here.Goals as goal
 
 pub returns-then-sectors-at-clause-first : goal.returns-then-sectors-at-clause-first

@@ -1,58 +1,60 @@
 use Rattle.std.proofs.Math.Nat.{le_trans}
 use Rattle.std.proofs.Common.{inl, ◌≡◌, ◌+◌, ◌*◌, ◌/◌, ◌≤◌, ◌++◌, ◌∷◌, [], ℕ, Bool, Some, List, length, refl, sym, ◌∙◌, ap, subst, arith}
-use Rattle.array_fixed.specs.raid_types_Sectors.{Sector, sectors_of}
-use Rattle.array_fixed.specs.raid_types_Shapes.{data_disks}
-use Rattle.array_fixed.proofs.raid_types_SectorLaws.{length-sectors_of}
-use Rattle.array_fixed.specs.raid_types_the_Shape.{Shape}
-use Rattle.array_fixed.specs.sb_specs_Reading.{shape_of, list_length}
-use Rattle.array_fixed.specs.history_the_Entry.{Entry}
-use Rattle.array_fixed.specs.history_the_Event_TheVariants.{Wrote, Refused}
-use Rattle.array_fixed.specs.history_the_Request_TheVariants.{Write as AsksWrite}
-use Rattle.array_fixed.specs.history_Flat.{next_number}
-use Rattle.array_fixed.specs.history_Plain.{entries_of}
-use Rattle.array_fixed.proofs.crash_views_Stands.{list-still}
-use Rattle.array_fixed.specs.array_members_Lacking.{IsUnwritten, LacksTooMany, AreBytes, are_synced, synced_rows, HaveRolesFailed}
-use Rattle.array_fixed.specs.array_members_Placed.{places_of, AreWhole}
-use Rattle.array_fixed.specs.array_members_Whole.{list_size}
-use Rattle.array_fixed.proofs.array_members_LackingLaws.{lost-since, shape-without}
-use Rattle.array_fixed.proofs.array_members_MemberLaws.{list-few}
-use Rattle.array_fixed.proofs.array_members_MovedLaws.{grows-none, moved-same}
-use Rattle.array_fixed.proofs.array_members_Still.{count-still, without-still}
-use Rattle.array_fixed.specs.sb_safe_updates_First.{write_refusal, call_refusal}
-use Rattle.array_fixed.specs.history_append_Losing.{losses_of, failure_events}
-use Rattle.array_fixed.proofs.history_append_CallLaws.{losses-are, torn-losses}
-use Rattle.array_fixed.specs.array_call_specs_Calls.{IsRefusedFor}
-use Rattle.array_fixed.specs.array_call_specs_Kept.{scope_in}
-use Rattle.array_fixed.proofs.array_call_specs_LossLaws.{losses-behind, losses-failure, ended-behind, ended-failure, torn-told}
-use Rattle.array_fixed.proofs.array_call_specs_ReadyLaws.{scope-same}
-use Rattle.array_fixed.proofs.array_call_specs_ReplyLaws.{inside-losses, replied, unwritten-of, refused-for}
-use Rattle.array_fixed.proofs.array_call_laws_ReadLaws.{some-of}
-use Rattle.array_fixed.proofs.array_state_FirstLaws.{call-within}
-use Rattle.array_fixed.proofs.history_invariant_Records.{begins-going}
-use Rattle.array_fixed.proofs.array_fixed_invariant_Writing.{wrote-stands}
-use Rattle.array_fixed.specs.array_specs_Parts.{visible_size, still_left, visible_in}
-use Rattle.array_fixed.proofs.array_specs_Called.{not_254, called, alone-lossless}
-use Rattle.array_fixed.proofs.array_specs_Lengths.{alone-keeps, behind-keeps, failure-keeps}
-use Rattle.array_fixed.proofs.array_specs_Replies.{refused_reply, failed_reply, write_kind}
-use Rattle.array_fixed.proofs.array_specs_VisibleLaws.{visible-within}
-use Rattle.array_fixed.proofs.array_fixed_laws_Asking.{refused-alone}
-use Rattle.array_fixed.proofs.array_fixed_laws_Kept.{ready, rows-same, rows-moved, with-buffers, roomier}
-use Rattle.array_fixed.proofs.array_fixed_laws_PlainBehind.{unwritten-plain, put-plain, plain-wrote, plain-unwritten, first-plain}
-use Rattle.array_fixed.proofs.array_fixed_laws_Left.{left-alike}
-use Rattle.array_fixed.proofs.array_fixed_laws_Reading.{seen, unwritten-still, refused-first}
-use Rattle.array_fixed.proofs.array_fixed_laws_Writing.{put-still, written-still, failed-stands}
-use Rattle.array_fixed.proofs.array_members_Fit.{valid, multiple, short}
-use Rattle.array_fixed.proofs.Rested.{shape-few, shape-known, room-1, room-49, room-50}
-use Rattle.array_fixed.specs.crash_safety_laws_Marking.{AreOthersPresent}
-use Rattle.array_fixed.specs.stripe_row_Rows.{present}
-use Rattle.array_fixed.proofs.Asked.{entries-alike, undone-called}
+use Rattle.array_type.specs.raid_types_Sectors.{Sector, sectors_of}
+use Rattle.array_type.specs.raid_types_Shapes.{data_disks}
+use Rattle.array_type.proofs.raid_types_SectorLaws.{length-sectors_of}
+use Rattle.array_type.specs.raid_types_the_Shape.{Shape}
+use Rattle.array_type.specs.sb_specs_Reading.{shape_of, list_length, is_reshaping}
+use Rattle.array_type.specs.history_the_Entry.{Entry}
+use Rattle.array_type.specs.history_the_Event_TheVariants.{Wrote, Refused}
+use Rattle.array_type.specs.history_the_Request_TheVariants.{Write as AsksWrite}
+use Rattle.array_type.specs.history_Flat.{next_number}
+use Rattle.array_type.specs.history_Plain.{entries_of}
+use Rattle.array_type.proofs.crash_views_Stands.{list-still}
+use Rattle.array_type.specs.array_members_Lacking.{IsUnwritten, LacksTooMany, AreBytes, are_synced, synced_rows, HaveRolesFailed}
+use Rattle.array_type.specs.array_members_Placed.{places_of, AreWhole}
+use Rattle.array_type.specs.array_members_Whole.{list_size}
+use Rattle.array_type.proofs.array_members_LackingLaws.{lost-since, shape-without}
+use Rattle.array_type.proofs.array_members_MemberLaws.{list-few}
+use Rattle.array_type.proofs.array_members_MovedLaws.{grows-none, moved-same}
+use Rattle.array_type.proofs.array_members_Still.{count-still, without-still}
+use Rattle.array_type.specs.sb_safe_updates_First.{write_refusal, call_refusal}
+use Rattle.array_type.specs.history_append_Losing.{losses_of, failure_events}
+use Rattle.array_type.proofs.history_append_CallLaws.{losses-are, torn-losses}
+use Rattle.array_type.specs.array_call_specs_Calls.{IsRefusedFor}
+use Rattle.array_type.specs.array_call_specs_Kept.{scope_in}
+use Rattle.array_type.proofs.array_call_specs_LossLaws.{losses-behind, losses-failure, ended-behind, ended-failure, torn-told}
+use Rattle.array_type.proofs.array_call_specs_ReadyLaws.{scope-same}
+use Rattle.array_type.proofs.array_call_specs_ReplyLaws.{inside-losses, replied, unwritten-of, refused-for}
+use Rattle.array_type.proofs.array_call_laws_ReadLaws.{some-of}
+use Rattle.array_type.proofs.array_state_FirstLaws.{call-within}
+use Rattle.array_type.proofs.history_invariant_Records.{begins-going}
+use Rattle.array_type.proofs.array_fixed_invariant_Writing.{wrote-stands}
+use Rattle.array_type.specs.array_specs_Parts.{visible_size, still_left, visible_in}
+use Rattle.array_type.proofs.array_specs_Called.{not_254, called, alone-lossless}
+use Rattle.array_type.proofs.array_specs_Lengths.{alone-keeps, behind-keeps, failure-keeps}
+use Rattle.array_type.proofs.array_specs_Replies.{refused_reply, failed_reply, write_kind}
+use Rattle.array_type.proofs.array_specs_VisibleLaws.{visible-within}
+use Rattle.array_type.proofs.array_fixed_laws_Asking.{refused-alone}
+use Rattle.array_type.proofs.array_fixed_laws_Kept.{ready, rows-same, rows-moved, with-buffers, roomier}
+use Rattle.array_type.proofs.array_fixed_laws_PlainBehind.{unwritten-plain, put-plain, plain-wrote, plain-unwritten, first-plain}
+use Rattle.array_type.proofs.array_fixed_laws_Left.{left-alike}
+use Rattle.array_type.proofs.array_fixed_laws_Reading.{seen, unwritten-still, refused-first}
+use Rattle.array_type.proofs.array_fixed_laws_Writing.{put-still, written-still, failed-stands}
+use Rattle.array_type.proofs.array_members_Fit.{valid, multiple, short}
+use Rattle.array_type.proofs.Rested.{shape-few, shape-known, room-1, room-49, room-50}
+use Rattle.array_type.specs.crash_safety_laws_Marking.{AreOthersPresent}
+use Rattle.array_type.specs.stripe_row_Rows.{present}
+use Rattle.array_type.proofs.Asked.{entries-alike, undone-called}
+use Rattle.array_type.proofs.Alike.{alike, stays-at-rest}
 use Rattle.array_fixed_io.proofs.writing.write.Goals as goal
 
 -- ---- refused before any row is read
 
 pub invariant_of-still-in-Some : goal.invariant_of-still-in-Some
 invariant_of-still-in-Some g c =
-    let was = c.still.invariant in
+    stays-at-rest (c.still.invariant.rests (ap (λ p. is_reshaping p.parts.members.newest) c.still.view_is ∙ c.requires.still)).0 (
+    let was = (c.still.invariant.rests (ap (λ p. is_reshaping p.parts.members.newest) c.still.view_is ∙ c.requires.still)).1 in
     let a = c.still.inside in
     let given = g.B.Bank.given a.bank in
     let number : c.args.who.number ≡ next_number c.args.who.caller a.epoch.entries.items = c.requires.next ∙ ap (λ p. next_number c.args.who.caller p.parts.entries) (sym c.still.view_is) in
@@ -67,11 +69,11 @@ invariant_of-still-in-Some g c =
     (λ within. unwritten-plain given a.members was.kept.members_are a.work.resync (visible_size a.members a.limit) to refusal within) c.in-Some.ensures.why)
     (λ slot. omega arith) (alone-keeps c.args.who c.ops-end.result (Refused refusal) (λ n. refl) (λ limit. refl))
     refl (scope-same given a.backup refl c.append_entry.ensures.uuid c.append_entry.ensures.given) c.append_entry.ensures.first c.make_room.ensures.items c.append_entry.ensures.items
-    (omega (arith, c.append_entry.ensures.room, c.in-Ok-make_room.ensures.ok))
+    (omega (arith, c.append_entry.ensures.room, c.in-Ok-make_room.ensures.ok)))
 
 pub returns-in-Some-clause-answered : goal.returns-in-Some-clause-answered
 returns-in-Some-clause-answered g c =
-    let was = c.still.invariant in
+    let was = (alike c.still.invariant) in
     let a = c.still.inside in
     let number : c.args.who.number ≡ next_number c.args.who.caller a.epoch.entries.items = c.requires.next ∙ ap (λ p. next_number c.args.who.caller p.parts.entries) (sym c.still.view_is) in
     let size = list_length a.members.newest in
@@ -85,7 +87,7 @@ returns-in-Some-clause-answered g c =
 
 pub returns-in-Some-clause-called : goal.returns-in-Some-clause-called
 returns-in-Some-clause-called g c =
-    let was = c.still.invariant in
+    let was = (alike c.still.invariant) in
     let a = c.still.inside in
     let given = g.B.Bank.given a.bank in
     let faults = g.B.Bank.faults_of a.bank in
@@ -107,7 +109,7 @@ pub write_listed-done-requires-clause-within : goal.write_listed-done-requires-c
 write_listed-done-requires-clause-within g c =
     let m = c.still.inside.members in
     subst (λ (s : Shape). c.args.at + length c.args.from.now / 512 ≤ data_disks s * m.newest.size) (sym c.shape_in-shape.ensures)
-    (subst (λ (n : ℕ). c.args.at + length c.args.from.now / 512 ≤ n) (list-still m.newest c.still.invariant.kept.members_are.still)
+    (subst (λ (n : ℕ). c.args.at + length c.args.from.now / 512 ≤ n) (list-still m.newest (c.still.invariant.rests (ap (λ p. is_reshaping p.parts.members.newest) c.still.view_is ∙ c.requires.still)).1.kept.members_are.still)
     (le_trans c.in_default.ensures.why.0 (visible-within (list_length m.newest) c.still.inside.limit)))
 
 -- the list is short
@@ -115,9 +117,9 @@ write_listed-done-requires-clause-within g c =
 pub write_listed-done-requires-clause-short : goal.write_listed-done-requires-clause-short
 write_listed-done-requires-clause-short g c =
     let m = c.still.inside.members in
-    let few = list-few (g.B.Bank.given c.still.inside.bank) m c.still.invariant.kept.members_are.placed in
+    let few = list-few (g.B.Bank.given c.still.inside.bank) m (c.still.invariant.rests (ap (λ p. is_reshaping p.parts.members.newest) c.still.view_is ∙ c.requires.still)).1.kept.members_are.placed in
     let within : c.args.at + length c.args.from.now / 512 ≤ list_size (places_of m) =
-    subst (λ (n : ℕ). c.args.at + length c.args.from.now / 512 ≤ n) (list-still m.newest c.still.invariant.kept.members_are.still)
+    subst (λ (n : ℕ). c.args.at + length c.args.from.now / 512 ≤ n) (list-still m.newest (c.still.invariant.rests (ap (λ p. is_reshaping p.parts.members.newest) c.still.view_is ∙ c.requires.still)).1.kept.members_are.still)
     (le_trans c.in_default.ensures.why.0 (visible-within (list_length m.newest) c.still.inside.limit)) in
     omega (arith, few, within)
 
@@ -125,7 +127,8 @@ write_listed-done-requires-clause-short g c =
 
 pub invariant_of-still-in-Some-refusal : goal.invariant_of-still-in-Some-refusal
 invariant_of-still-in-Some-refusal g c =
-    let was = c.still.invariant in
+    stays-at-rest (c.still.invariant.rests (ap (λ p. is_reshaping p.parts.members.newest) c.still.view_is ∙ c.requires.still)).0 (
+    let was = (c.still.invariant.rests (ap (λ p. is_reshaping p.parts.members.newest) c.still.view_is ∙ c.requires.still)).1 in
     let here = was.kept.members_are in
     let a = c.still.inside in
     let given = g.B.Bank.given a.bank in
@@ -167,11 +170,11 @@ invariant_of-still-in-Some-refusal g c =
     did.keeps.bank.counts (failure-keeps c.args.who end roles spares torn c.args.at body refusal)
     did.keeps.bank.same (scope-same given a.backup did.keeps.bank.same c.append_failure.ensures.uuid c.append_failure.ensures.given) c.append_failure.ensures.first c.make_room.ensures.items
     (c.append_failure.ensures.items ∙ ap (λ (b : List Sector). c.make_room.new.self.items ++ entries_of c.args.who end (failure_events roles spares torn c.args.at b refusal)) c.in-Ok.ensures)
-    (omega (arith, c.append_failure.ensures.room, c.in-Ok-make_room.ensures.ok)))
+    (omega (arith, c.append_failure.ensures.room, c.in-Ok-make_room.ensures.ok))))
 
 pub returns-in-Some-refusal-clause-answered : goal.returns-in-Some-refusal-clause-answered
 returns-in-Some-refusal-clause-answered g c =
-    let was = c.still.invariant in
+    let was = (alike c.still.invariant) in
     let a = c.still.inside in
     let number : c.args.who.number ≡ next_number c.args.who.caller a.epoch.entries.items = c.requires.next ∙ ap (λ p. next_number c.args.who.caller p.parts.entries) (sym c.still.view_is) in
     let m = c.write_listed-done.new.members in
@@ -225,7 +228,7 @@ returns-in-Some-refusal-clause-first g c =
 
 pub returns-in-Some-refusal-clause-called : goal.returns-in-Some-refusal-clause-called
 returns-in-Some-refusal-clause-called g c =
-    let was = c.still.invariant in
+    let was = (c.still.invariant.rests (ap (λ p. is_reshaping p.parts.members.newest) c.still.view_is ∙ c.requires.still)).1 in
     let here = was.kept.members_are in
     let a = c.still.inside in
     let given = g.B.Bank.given a.bank in
@@ -251,7 +254,8 @@ returns-in-Some-refusal-clause-called g c =
 
 pub invariant_of-still-2 : goal.invariant_of-still-2
 invariant_of-still-2 g c =
-    let was = c.still.invariant in
+    stays-at-rest (c.still.invariant.rests (ap (λ p. is_reshaping p.parts.members.newest) c.still.view_is ∙ c.requires.still)).0 (
+    let was = (c.still.invariant.rests (ap (λ p. is_reshaping p.parts.members.newest) c.still.view_is ∙ c.requires.still)).1 in
     let here = was.kept.members_are in
     let a = c.still.inside in
     let given = g.B.Bank.given a.bank in
@@ -290,7 +294,7 @@ invariant_of-still-2 g c =
     did.keeps.bank.counts (behind-keeps c.args.who end roles spares (Wrote c.args.at body ∷ []) (alone-keeps c.args.who end (Wrote c.args.at body) (λ n. refl) (λ limit. refl)))
     did.keeps.bank.same (scope-same given a.backup did.keeps.bank.same c.append_after_losses.ensures.uuid c.append_after_losses.ensures.given) c.append_after_losses.ensures.first c.make_room.ensures.items
     (c.append_after_losses.ensures.items ∙ ap (λ (b : List Sector). c.make_room.new.self.items ++ entries_of c.args.who end (losses_of roles spares ++ Wrote c.args.at b ∷ [])) c.in-Ok.ensures)
-    (omega (arith, c.append_after_losses.ensures.room, c.in-Ok-make_room.ensures.ok)))
+    (omega (arith, c.append_after_losses.ensures.room, c.in-Ok-make_room.ensures.ok))))
 
 pub returns-clause-answered : goal.returns-clause-answered
 returns-clause-answered g c =
@@ -308,7 +312,7 @@ returns-clause-answered g c =
 
 pub returns-clause-called : goal.returns-clause-called
 returns-clause-called g c =
-    let was = c.still.invariant in
+    let was = (c.still.invariant.rests (ap (λ p. is_reshaping p.parts.members.newest) c.still.view_is ∙ c.requires.still)).1 in
     let here = was.kept.members_are in
     let a = c.still.inside in
     let given = g.B.Bank.given a.bank in
@@ -338,7 +342,8 @@ returns-clause-first g c = rw (← c.still.view_is) (sym c.in_default.ensures.fi
 -- ---- what is handed down, and what is left of it
 
 pub invariant_of-still : goal.invariant_of-still
-invariant_of-still g c = roomier c.still.invariant c.make_room.ensures.items c.make_room.ensures.keeps
+invariant_of-still g c =
+    stays-at-rest (c.still.invariant.rests (ap (λ p. is_reshaping p.parts.members.newest) c.still.view_is ∙ c.requires.still)).0 (roomier (c.still.invariant.rests (ap (λ p. is_reshaping p.parts.members.newest) c.still.view_is ∙ c.requires.still)).1 c.make_room.ensures.items c.make_room.ensures.keeps)
 
 pub returns-in-Err-make_room-clause-answered : goal.returns-in-Err-make_room-clause-answered
 returns-in-Err-make_room-clause-answered g c = c.make_room.ensures.items ∙ ap (λ p. p.parts.entries) c.still.view_is
@@ -348,7 +353,7 @@ returns-in-Err-make_room-clause-unchanged g c = entries-alike c.make_room.new.se
 
 pub returns-in-Err-make_room-clause-called : goal.returns-in-Err-make_room-clause-called
 returns-in-Err-make_room-clause-called g c =
-    let kept = c.still.invariant.kept in
+    let kept = (alike c.still.invariant).kept in
     rw (← c.still.view_is) (undone-called kept.members_are.placed kept.members_are.unlost (λ t. (kept.recorded t).ended) (λ t. (kept.recorded t).begun) (entries-alike c.make_room.new.self.items refl c.make_room.ensures.items))
 
 pub returns-in-Err-make_room-clause-whole : goal.returns-in-Err-make_room-clause-whole
@@ -367,7 +372,7 @@ returns-in-Err-make_room-clause-given g c = ap (λ p. g.B.Bank.given p.parts.ban
 
 pub returns-in-Err-clause-called : goal.returns-in-Err-clause-called
 returns-in-Err-clause-called g c =
-    let kept = c.still.invariant.kept in
+    let kept = (alike c.still.invariant).kept in
     rw (← c.still.view_is) (undone-called kept.members_are.placed kept.members_are.unlost (λ t. (kept.recorded t).ended) (λ t. (kept.recorded t).begun) refl)
 
 pub check_number-requires : goal.check_number-requires
@@ -375,21 +380,22 @@ check_number-requires g c =
     c.requires.next ∙ ap (λ p. next_number c.args.who.caller p.parts.entries) (sym c.still.view_is) ∙ ap (λ (l : List Entry). next_number c.args.who.caller l) (sym c.make_room.ensures.items)
 
 pub unwritten_here-requires-clause-shape : goal.unwritten_here-requires-clause-shape
-unwritten_here-requires-clause-shape g c = valid (g.B.Bank.given c.still.inside.bank) c.still.inside.members c.still.invariant.kept.members_are.placed
+unwritten_here-requires-clause-shape g c = valid (g.B.Bank.given c.still.inside.bank) c.still.inside.members (alike c.still.invariant).kept.members_are.placed
 
 pub unwritten_here-requires-clause-multiple : goal.unwritten_here-requires-clause-multiple
-unwritten_here-requires-clause-multiple g c = multiple (g.B.Bank.given c.still.inside.bank) c.still.inside.members c.still.invariant.kept.members_are.placed
+unwritten_here-requires-clause-multiple g c = multiple (g.B.Bank.given c.still.inside.bank) c.still.inside.members (alike c.still.invariant).kept.members_are.placed
 
 pub unwritten_here-requires-clause-roles : goal.unwritten_here-requires-clause-roles
 unwritten_here-requires-clause-roles g c =
     let m = c.still.inside.members in
-    shape-known (g.B.Bank.given c.still.inside.bank) m c.still.invariant.kept.members_are.placed (shape_of m.newest) refl
+    shape-known (g.B.Bank.given c.still.inside.bank) m (alike c.still.invariant).kept.members_are.placed (shape_of m.newest) refl
 
 pub unwritten_here-requires-clause-size : goal.unwritten_here-requires-clause-size
-unwritten_here-requires-clause-size g c = short (g.B.Bank.given c.still.inside.bank) c.still.inside.members c.still.invariant.kept.members_are.placed
+unwritten_here-requires-clause-size g c = short (g.B.Bank.given c.still.inside.bank) c.still.inside.members (alike c.still.invariant).kept.members_are.placed
 
 pub unwritten_here-requires-clause-progress : goal.unwritten_here-requires-clause-progress
-unwritten_here-requires-clause-progress g c = c.still.invariant.kept.progress
+unwritten_here-requires-clause-progress g c =
+    (c.still.invariant.rests (ap (λ p. is_reshaping p.parts.members.newest) c.still.view_is ∙ c.requires.still)).1.kept.progress
 
 pub append_entry-requires-clause-room : goal.append_entry-requires-clause-room
 append_entry-requires-clause-room g c = room-1 c.make_room.new.self.room (room-50 51 c.make_room.new.self.room (omega arith) c.in-Ok-make_room.ensures.ok)
@@ -409,35 +415,39 @@ pub returns-in-Some-clause-given : goal.returns-in-Some-clause-given
 returns-in-Some-clause-given g c = ap (λ p. g.B.Bank.given p.parts.bank) c.still.view_is
 
 pub shape_in-shape-requires : goal.shape_in-shape-requires
-shape_in-shape-requires g c = valid (g.B.Bank.given c.still.inside.bank) c.still.inside.members c.still.invariant.kept.members_are.placed
+shape_in-shape-requires g c = valid (g.B.Bank.given c.still.inside.bank) c.still.inside.members (alike c.still.invariant).kept.members_are.placed
 
 pub unassigned_roles-before-requires-clause-known : goal.unassigned_roles-before-requires-clause-known
-unassigned_roles-before-requires-clause-known g c = shape-known (g.B.Bank.given c.still.inside.bank) c.still.inside.members c.still.invariant.kept.members_are.placed c.shape_in-shape.result c.shape_in-shape.ensures
+unassigned_roles-before-requires-clause-known g c =
+    shape-known (g.B.Bank.given c.still.inside.bank) c.still.inside.members (alike c.still.invariant).kept.members_are.placed c.shape_in-shape.result c.shape_in-shape.ensures
 
 pub unassigned_roles-before-requires-clause-few : goal.unassigned_roles-before-requires-clause-few
-unassigned_roles-before-requires-clause-few g c = shape-few (g.B.Bank.given c.still.inside.bank) c.still.inside.members c.still.invariant.kept.members_are.placed c.shape_in-shape.result c.shape_in-shape.ensures
+unassigned_roles-before-requires-clause-few g c =
+    shape-few (g.B.Bank.given c.still.inside.bank) c.still.inside.members (alike c.still.invariant).kept.members_are.placed c.shape_in-shape.result c.shape_in-shape.ensures
 
 pub are_synced-synced-requires-clause-shape : goal.are_synced-synced-requires-clause-shape
 are_synced-synced-requires-clause-shape g c = c.shape_in-shape.ensures
 
 pub are_synced-synced-requires-clause-valid : goal.are_synced-synced-requires-clause-valid
-are_synced-synced-requires-clause-valid g c = valid (g.B.Bank.given c.still.inside.bank) c.still.inside.members c.still.invariant.kept.members_are.placed
+are_synced-synced-requires-clause-valid g c = valid (g.B.Bank.given c.still.inside.bank) c.still.inside.members (alike c.still.invariant).kept.members_are.placed
 
 pub are_synced-synced-requires-clause-multiple : goal.are_synced-synced-requires-clause-multiple
-are_synced-synced-requires-clause-multiple g c = multiple (g.B.Bank.given c.still.inside.bank) c.still.inside.members c.still.invariant.kept.members_are.placed
+are_synced-synced-requires-clause-multiple g c = multiple (g.B.Bank.given c.still.inside.bank) c.still.inside.members (alike c.still.invariant).kept.members_are.placed
 
 pub are_synced-synced-requires-clause-size : goal.are_synced-synced-requires-clause-size
-are_synced-synced-requires-clause-size g c = short (g.B.Bank.given c.still.inside.bank) c.still.inside.members c.still.invariant.kept.members_are.placed
+are_synced-synced-requires-clause-size g c = short (g.B.Bank.given c.still.inside.bank) c.still.inside.members (alike c.still.invariant).kept.members_are.placed
 
 pub are_synced-synced-requires-clause-progress : goal.are_synced-synced-requires-clause-progress
-are_synced-synced-requires-clause-progress g c = c.still.invariant.kept.progress
+are_synced-synced-requires-clause-progress g c =
+    (c.still.invariant.rests (ap (λ p. is_reshaping p.parts.members.newest) c.still.view_is ∙ c.requires.still)).1.kept.progress
 
 pub write_listed-done-requires-clause-stands : goal.write_listed-done-requires-clause-stands
-write_listed-done-requires-clause-stands g c = record {
-  slots = c.still.invariant.kept.slots;
-  placed = c.still.invariant.kept.members_are.placed;
-  unlost = c.still.invariant.kept.members_are.unlost;
-  free = c.still.invariant.kept.members_are.free;
+write_listed-done-requires-clause-stands g c =
+    record {
+  slots = (alike c.still.invariant).kept.slots;
+  placed = (alike c.still.invariant).kept.members_are.placed;
+  unlost = (alike c.still.invariant).kept.members_are.unlost;
+  free = (alike c.still.invariant).kept.members_are.free;
 }
 
 pub write_listed-done-requires-clause-from : goal.write_listed-done-requires-clause-from
@@ -447,10 +457,10 @@ pub write_listed-done-requires-clause-few : goal.write_listed-done-requires-clau
 write_listed-done-requires-clause-few g c = c.requires.few
 
 pub write_listed-done-requires-clause-rows : goal.write_listed-done-requires-clause-rows
-write_listed-done-requires-clause-rows g c = c.still.invariant.rows_fit
+write_listed-done-requires-clause-rows g c = (alike c.still.invariant).rows_fit
 
 pub write_listed-done-requires-clause-buffer : goal.write_listed-done-requires-clause-buffer
-write_listed-done-requires-clause-buffer g c = c.still.invariant.buffer_fits
+write_listed-done-requires-clause-buffer g c = (alike c.still.invariant).buffer_fits
 
 pub newly_unassigned-roles-requires-clause-known : goal.newly_unassigned-roles-requires-clause-known
 newly_unassigned-roles-requires-clause-known g c =
@@ -458,7 +468,8 @@ newly_unassigned-roles-requires-clause-known g c =
     shape-known (g.B.Bank.given c.still.inside.bank) c.write_listed-done.new.members moved.placed c.shape_in-shape.result (c.shape_in-shape.ensures ∙ sym moved.shape)
 
 pub newly_unassigned-roles-requires-clause-few : goal.newly_unassigned-roles-requires-clause-few
-newly_unassigned-roles-requires-clause-few g c = shape-few (g.B.Bank.given c.still.inside.bank) c.still.inside.members c.still.invariant.kept.members_are.placed c.shape_in-shape.result c.shape_in-shape.ensures
+newly_unassigned-roles-requires-clause-few g c =
+    shape-few (g.B.Bank.given c.still.inside.bank) c.still.inside.members (alike c.still.invariant).kept.members_are.placed c.shape_in-shape.result c.shape_in-shape.ensures
 
 pub append_failure-requires-clause-room : goal.append_failure-requires-clause-room
 append_failure-requires-clause-room g c = room-50 51 c.make_room.new.self.room (omega arith) c.in-Ok-make_room.ensures.ok
@@ -500,16 +511,34 @@ returns-in-Some-refusal-clause-failed g c =
     subst (λ p. HaveRolesFailed p.parts.members c.write_listed-done.new.members (g.B.Bank.faults_of p.parts.bank) (g.B.Bank.faults_of c.write_listed-done.new.bank)) c.still.view_is c.write_listed-done.ensures.keeps.failed.roles
 
 pub returns-in-Some-refusal-clause-whole : goal.returns-in-Some-refusal-clause-whole
-returns-in-Some-refusal-clause-whole g c = subst (λ p. AreWhole c.write_listed-done.new.members → AreWhole p.parts.members) c.still.view_is c.write_listed-done.ensures.keeps.moved.whole
+returns-in-Some-refusal-clause-whole g c =
+    subst (λ p. AreWhole c.write_listed-done.new.members → AreWhole p.parts.members) c.still.view_is c.write_listed-done.ensures.keeps.moved.whole
 
 pub returns-clause-failed : goal.returns-clause-failed
 returns-clause-failed g c =
     subst (λ p. HaveRolesFailed p.parts.members c.write_listed-done.new.members (g.B.Bank.faults_of p.parts.bank) (g.B.Bank.faults_of c.write_listed-done.new.bank)) c.still.view_is c.write_listed-done.ensures.keeps.failed.roles
 
 pub returns-clause-whole : goal.returns-clause-whole
-returns-clause-whole g c = subst (λ p. AreWhole c.write_listed-done.new.members → AreWhole p.parts.members) c.still.view_is c.write_listed-done.ensures.keeps.moved.whole
+returns-clause-whole g c =
+    subst (λ p. AreWhole c.write_listed-done.new.members → AreWhole p.parts.members) c.still.view_is c.write_listed-done.ensures.keeps.moved.whole
 
 pub returns-in-Some-clause-untouched : goal.returns-in-Some-clause-untouched
-returns-in-Some-clause-untouched g c = λ none.
+returns-in-Some-clause-untouched g c =
+    λ none.
     let a = c.still.inside in
     subst (λ p. g.B.Bank.tells → AreOthersPresent (present (g.B.Bank.given p.parts.bank) (g.B.Bank.tape p.parts.bank)) (present (g.B.Bank.given p.parts.bank) (g.B.Bank.tape a.bank))) c.still.view_is (λ t s k apart. refl)
+
+pub returns-in-Some-clause-still : goal.returns-in-Some-clause-still
+returns-in-Some-clause-still g c = (ap (λ p. is_reshaping p.parts.members.newest) c.still.view_is ∙ c.requires.still)
+
+pub returns-in-Some-refusal-clause-still : goal.returns-in-Some-refusal-clause-still
+returns-in-Some-refusal-clause-still g c = c.write_listed-done.ensures.keeps.moved.reshape.reshaping ∙ (ap (λ p. is_reshaping p.parts.members.newest) c.still.view_is ∙ c.requires.still)
+
+pub returns-clause-still : goal.returns-clause-still
+returns-clause-still g c = c.write_listed-done.ensures.keeps.moved.reshape.reshaping ∙ (ap (λ p. is_reshaping p.parts.members.newest) c.still.view_is ∙ c.requires.still)
+
+pub returns-in-Err-make_room-clause-still : goal.returns-in-Err-make_room-clause-still
+returns-in-Err-make_room-clause-still g c = (ap (λ p. is_reshaping p.parts.members.newest) c.still.view_is ∙ c.requires.still)
+
+pub returns-in-Err-clause-still : goal.returns-in-Err-clause-still
+returns-in-Err-clause-still g c = c.requires.still

@@ -1,45 +1,46 @@
 use Rattle.std.proofs.Common.{◌≡◌, ◌≤◌, ◌<◌, true, [], ◌∷◌, ◌++◌, Some, inl, inr, refl, sym, ◌∙◌, ap, subst, arith}
-use Rattle.array_fixed.specs.raid_types_the_Shape.{Shape}
-use Rattle.array_fixed.proofs.raid_layout_Limits.{limited}
-use Rattle.array_fixed.specs.sb_specs_Reading.{shape_of, list_length, is_clean}
-use Rattle.array_fixed.specs.sb_specs_Reads.{has_spare}
-use Rattle.array_fixed.specs.stripe_row_Rows.{reading_of}
-use Rattle.array_fixed.specs.history_the_Event_TheVariants.{Step}
-use Rattle.array_fixed.specs.history_the_StepKind_TheVariants.{RebuildTaken}
-use Rattle.array_fixed.specs.history_Plain.{entries_of}
-use Rattle.array_fixed.specs.array_members_the_Work.{Work}
-use Rattle.array_fixed.specs.array_members_Lacking.{AreLostSince, AreTooMany}
-use Rattle.array_fixed.specs.array_members_Placed.{is_unassigned}
-use Rattle.array_fixed.specs.array_members_Rebuilding.{with_recovering}
-use Rattle.array_fixed.specs.array_members_Status.{left_of, stripes_of}
-use Rattle.array_fixed.proofs.array_members_Fit.{valid, short}
-use Rattle.array_fixed.proofs.array_members_GivenMembers.{placed-given, spare-before}
-use Rattle.array_fixed.proofs.array_members_LackingLaws.{lost-since, never-both}
-use Rattle.array_fixed.proofs.array_members_Still.{count-still}
-use Rattle.array_fixed.specs.history_append_Losing.{losses_of}
-use Rattle.array_fixed.specs.array_call_specs_Kept.{scope_in}
-use Rattle.array_fixed.specs.array_call_specs_Calls.{IsHeldOrGiven, WasSpare, AreStepsFewer, with_rebuilt}
-use Rattle.array_fixed.proofs.array_call_specs_LossLaws.{losses-before, ended-behind}
-use Rattle.array_fixed.proofs.array_call_specs_ReadyLaws.{scope-same}
-use Rattle.array_fixed.proofs.array_call_specs_ReplyLaws.{too-many-of, refused-for}
-use Rattle.array_fixed.proofs.array_call_specs_StepsLeft.{steps-fewer}
-use Rattle.array_fixed.proofs.array_call_laws_RebuildGiven.{receiver-spare, taken-vacant, taken-held, taken-by, taken-before, taken-after}
-use Rattle.array_fixed.specs.history_invariant_Recorded.{IsCallGoing}
-use Rattle.array_fixed.specs.array_fixed_invariant_Still.{IsStill}
-use Rattle.array_fixed.proofs.array_fixed_invariant_Rebuilding.{IsTaken}
-use Rattle.array_fixed.specs.array_specs_Parts.{still_left}
-use Rattle.array_fixed.specs.array_specs_Calls.{moving_world}
-use Rattle.array_fixed.specs.array_specs_Plans.{ArePlansKept}
-use Rattle.array_fixed.proofs.array_specs_Called.{risen-told}
-use Rattle.array_fixed.proofs.array_specs_Lengths.{alone-keeps, behind-keeps}
-use Rattle.array_fixed.proofs.array_fixed_laws_Kept.{ready, rows-moved}
-use Rattle.array_fixed.proofs.array_fixed_laws_Going.{step-going}
-use Rattle.array_fixed.proofs.array_fixed_laws_StepLaws.{shapes-moved, planned-same, stepped, stepped-more, fewer-more}
-use Rattle.array_fixed.proofs.array_fixed_laws_RebuildLaws.{taken-less, take-done}
-use Rattle.array_fixed.proofs.array_fixed_laws_PlainSteps.{taken-plain}
+use Rattle.array_type.specs.raid_types_the_Shape.{Shape}
+use Rattle.array_type.proofs.raid_layout_Limits.{limited}
+use Rattle.array_type.specs.sb_specs_Reading.{shape_of, list_length, is_clean, is_reshaping}
+use Rattle.array_type.specs.sb_specs_Reads.{has_spare}
+use Rattle.array_type.specs.stripe_row_Rows.{reading_of}
+use Rattle.array_type.specs.history_the_Event_TheVariants.{Step}
+use Rattle.array_type.specs.history_the_StepKind_TheVariants.{RebuildTaken}
+use Rattle.array_type.specs.history_Plain.{entries_of}
+use Rattle.array_type.specs.array_members_the_Work.{Work}
+use Rattle.array_type.specs.array_members_Lacking.{AreLostSince, AreTooMany}
+use Rattle.array_type.specs.array_members_Placed.{is_unassigned}
+use Rattle.array_type.specs.array_members_Rebuilding.{with_recovering}
+use Rattle.array_type.specs.array_members_Status.{left_of, stripes_of}
+use Rattle.array_type.proofs.array_members_Fit.{valid, short}
+use Rattle.array_type.proofs.array_members_GivenMembers.{placed-given, spare-before}
+use Rattle.array_type.proofs.array_members_LackingLaws.{lost-since, never-both}
+use Rattle.array_type.proofs.array_members_Still.{count-still}
+use Rattle.array_type.specs.history_append_Losing.{losses_of}
+use Rattle.array_type.specs.array_call_specs_Kept.{scope_in}
+use Rattle.array_type.specs.array_call_specs_Calls.{IsHeldOrGiven, WasSpare, AreStepsFewer, with_rebuilt}
+use Rattle.array_type.proofs.array_call_specs_LossLaws.{losses-before, ended-behind}
+use Rattle.array_type.proofs.array_call_specs_ReadyLaws.{scope-same}
+use Rattle.array_type.proofs.array_call_specs_ReplyLaws.{too-many-of, refused-for}
+use Rattle.array_type.proofs.array_call_specs_StepsLeft.{steps-fewer}
+use Rattle.array_type.proofs.array_call_laws_RebuildGiven.{receiver-spare, taken-vacant, taken-held, taken-by, taken-before, taken-after}
+use Rattle.array_type.specs.history_invariant_Recorded.{IsCallGoing}
+use Rattle.array_type.specs.array_fixed_invariant_Still.{IsStill}
+use Rattle.array_type.proofs.array_fixed_invariant_Rebuilding.{IsTaken}
+use Rattle.array_type.specs.array_specs_Parts.{still_left}
+use Rattle.array_type.specs.array_specs_Calls.{moving_world}
+use Rattle.array_type.specs.array_specs_Plans.{ArePlansKept}
+use Rattle.array_type.proofs.array_specs_Called.{risen-told}
+use Rattle.array_type.proofs.array_specs_Lengths.{alone-keeps, behind-keeps}
+use Rattle.array_type.proofs.array_fixed_laws_Kept.{ready, rows-moved}
+use Rattle.array_type.proofs.array_fixed_laws_Going.{step-going}
+use Rattle.array_type.proofs.array_fixed_laws_StepLaws.{shapes-moved, planned-same, stepped, stepped-more, fewer-more}
+use Rattle.array_type.proofs.array_fixed_laws_RebuildLaws.{taken-less, take-done}
+use Rattle.array_type.proofs.array_fixed_laws_PlainSteps.{taken-plain}
 use Rattle.std.specs.Prelude.{IfSome}
-use Rattle.array_fixed.proofs.array_fixed_invariant_Staying.{progress-same}
-use Rattle.array_fixed.proofs.Asked.{known-at, known-behind, sound-behind, step-taken, room-for-step, done-at-all, refused-at-all, step-entered, room-after}
+use Rattle.array_type.proofs.array_fixed_invariant_Staying.{progress-same}
+use Rattle.array_type.proofs.Asked.{known-at, known-behind, sound-behind, step-taken, room-for-step, done-at-all, refused-at-all, step-entered, room-after}
+use Rattle.array_type.proofs.Alike.{alike, stays-at-rest}
 use Rattle.array_fixed_sync.proofs.filling.take_role.Goals as goal
 
 -- ---- refused before anything is done
@@ -61,19 +62,20 @@ pub returns-in-Some-clause-stepped : goal.returns-in-Some-clause-stepped
 returns-in-Some-clause-stepped g c = stepped-more (λ role slot held. inl held) c.refuse_step.ensures.stepped
 
 pub returns-in-Some-clause-held : goal.returns-in-Some-clause-held
-returns-in-Some-clause-held g c = record { roles = λ role slot held. inl (c.refuse_step.ensures.held role slot held); spares = c.refuse_step.ensures.spares }
+returns-in-Some-clause-held g c =
+    record { roles = λ role slot held. inl (c.refuse_step.ensures.held role slot held); spares = c.refuse_step.ensures.spares }
 
 -- ---- the spare gets the role
 
 pub unassigned_roles-requires-clause-few : goal.unassigned_roles-requires-clause-few
 unassigned_roles-requires-clause-few g c =
-    let most = (limited (shape_of c.still.inside.members.newest) (valid (g.B.Bank.given c.still.inside.bank) c.still.inside.members c.still.invariant.kept.members_are.placed)).most in
+    let most = (limited (shape_of c.still.inside.members.newest) (valid (g.B.Bank.given c.still.inside.bank) c.still.inside.members (alike c.still.invariant).kept.members_are.placed)).most in
     let disks = ap (λ (s : Shape). s.disks) c.shape_in-disks.ensures in
     omega (arith, most, disks)
 
 pub newly_unassigned-roles-requires-clause-few : goal.newly_unassigned-roles-requires-clause-few
 newly_unassigned-roles-requires-clause-few g c =
-    let most = (limited (shape_of c.still.inside.members.newest) (valid (g.B.Bank.given c.still.inside.bank) c.still.inside.members c.still.invariant.kept.members_are.placed)).most in
+    let most = (limited (shape_of c.still.inside.members.newest) (valid (g.B.Bank.given c.still.inside.bank) c.still.inside.members (alike c.still.invariant).kept.members_are.placed)).most in
     let disks = ap (λ (s : Shape). s.disks) c.shape_in-disks.ensures in
     omega (arith, most, disks)
 
@@ -81,19 +83,20 @@ pub with-requires : goal.with-requires
 with-requires g c =
     let a = c.still.inside in
     let below : c.args.role < (shape_of a.members.newest).disks = subst (λ p. c.args.role < (shape_of p.parts.members.newest).disks) (sym c.still.view_is) c.requires.role in
-    let most = (limited (shape_of a.members.newest) (valid (g.B.Bank.given a.bank) a.members c.still.invariant.kept.members_are.placed)).most in
+    let most = (limited (shape_of a.members.newest) (valid (g.B.Bank.given a.bank) a.members (alike c.still.invariant).kept.members_are.placed)).most in
     omega (arith, most, below)
 
 pub set_rebuilt-requires : goal.set_rebuilt-requires
 set_rebuilt-requires g c =
     let a = c.still.inside in
     let below : c.args.role < (shape_of a.members.newest).disks = subst (λ p. c.args.role < (shape_of p.parts.members.newest).disks) (sym c.still.view_is) c.requires.role in
-    let most = (limited (shape_of a.members.newest) (valid (g.B.Bank.given a.bank) a.members c.still.invariant.kept.members_are.placed)).most in
+    let most = (limited (shape_of a.members.newest) (valid (g.B.Bank.given a.bank) a.members (alike c.still.invariant).kept.members_are.placed)).most in
     omega (arith, most, below)
 
 pub invariant_of-still : goal.invariant_of-still
 invariant_of-still g c =
-    let was = c.still.invariant in
+    stays-at-rest (c.still.invariant.rests (ap (λ p. is_reshaping p.parts.members.newest) c.still.view_is ∙ c.requires.still)).0 (
+    let was = (c.still.invariant.rests (ap (λ p. is_reshaping p.parts.members.newest) c.still.view_is ∙ c.requires.still)).1 in
     let here = was.kept.members_are in
     let a = c.still.inside in
     let given = g.B.Bank.given a.bank in
@@ -134,20 +137,20 @@ invariant_of-still g c =
       others = did.others;
       safe = did.safe;
     } in
-    let left = c.all_left-left.result in
+    let left = c.left_at_rest-left.result in
     let next : c.set_rebuilt.new.work ≡ with_rebuilt role 0 a.work = c.set_rebuilt.ensures.work in
-    let told = c.all_left-left.ensures ∙ ap (λ (w : Work). still_left w m a.ahead) next in
+    let told = c.left_at_rest-left.ensures ∙ ap (λ (w : Work). still_left w m a.ahead) next in
     let kept = subst (λ (w : Work). IsStill g.B.Bank.tells given tape' (scope_in given a.epoch.uuid a.epoch.given a.backup) a.epoch.first (a.epoch.entries.items ++ entries_of c.args.who end (losses_of roles spares ++ Step RebuildTaken left ∷ [])) m w (still_left w m a.ahead)) (sym next)
     (take-done a.ahead c.args.who end role slot roles spares was.kept c.in_default.ensures goes c.requires.caller c.ops-end.ensures.count c.set_rebuilt.ensures.known leaves left told plans) in
     ready (entries_of c.args.who end (losses_of roles spares ++ Step RebuildTaken left ∷ [])) was (rows-moved given (with_recovering role slot a.members) m did.moved)
     kept (taken-plain was c.args.who end c.in_default.ensures goes c.requires.caller c.ops-end.ensures.count c.set_rebuilt.ensures.known leaves left told)
     did.counts (behind-keeps c.args.who end roles spares (Step RebuildTaken left ∷ []) (alone-keeps c.args.who end (Step RebuildTaken left) (λ n. refl) (λ limit. refl)))
     did.given (scope-same given a.backup did.given c.append_after_losses.ensures.uuid c.append_after_losses.ensures.given) c.append_after_losses.ensures.first refl c.append_after_losses.ensures.items
-    (room-after was.room_left some c.append_after_losses.ensures.room)
+    (room-after was.room_left some c.append_after_losses.ensures.room))
 
 pub returns-clause-stepped : goal.returns-clause-stepped
 returns-clause-stepped g c =
-    let was = c.still.invariant in
+    let was = (c.still.invariant.rests (ap (λ p. is_reshaping p.parts.members.newest) c.still.view_is ∙ c.requires.still)).1 in
     let here = was.kept.members_are in
     let a = c.still.inside in
     let given = g.B.Bank.given a.bank in
@@ -170,7 +173,7 @@ returns-clause-stepped g c =
     (placed-given given a.members here.placed (Some 0) role slot to) did.moved did.failed (ap (λ (s : Shape). s.disks) c.shape_in-disks.ensures ∙ sym (count-still a.members.newest here.still))
     (taken-vacant given a.members here.placed role slot to c.shape_in-disks.result.disks c.unassigned_roles.result c.with.result c.without-before.result few (omega arith) c.unassigned_roles.ensures c.with.ensures c.without-before.ensures)
     c.newly_unassigned-roles.ensures in
-    let event = Step RebuildTaken c.all_left-left.result in
+    let event = Step RebuildTaken c.left_at_rest-left.result in
     rw (← c.still.view_is) (stepped did.grows (shapes-moved did.moved)
     (ended-behind (g.B.Bank.tape c.give_and_name-spares.new.bank) c.append_after_losses.new.epoch.first a.epoch.entries.items c.args.who end (losses_of roles spares) event c.append_after_losses.ensures.items c.ops-end.ensures.count)
     (λ r s held. did.failed.roles r s (taken-held given a.members here.placed role slot to r s held))
@@ -183,7 +186,7 @@ returns-clause-stepped g c =
 
 pub returns-clause-taken : goal.returns-clause-taken
 returns-clause-taken g c =
-    let was = c.still.invariant in
+    let was = (alike c.still.invariant) in
     let here = was.kept.members_are in
     let a = c.still.inside in
     let given = g.B.Bank.given a.bank in
@@ -197,7 +200,7 @@ returns-clause-taken g c =
 
 pub returns-clause-held : goal.returns-clause-held
 returns-clause-held g c =
-    let was = c.still.invariant in
+    let was = (alike c.still.invariant) in
     let here = was.kept.members_are in
     let a = c.still.inside in
     let given = g.B.Bank.given a.bank in
@@ -215,7 +218,7 @@ returns-clause-held g c =
 
 pub returns-clause-left : goal.returns-clause-left
 returns-clause-left g c =
-    let was = c.still.invariant in
+    let was = (c.still.invariant.rests (ap (λ p. is_reshaping p.parts.members.newest) c.still.view_is ∙ c.requires.still)).1 in
     let here = was.kept.members_are in
     let a = c.still.inside in
     let given = g.B.Bank.given a.bank in
@@ -257,18 +260,20 @@ returns-clause-left g c =
     let less = taken-less a.ahead c.args.who end role slot roles spares was.kept c.in_default.ensures goes c.requires.caller c.ops-end.ensures.count c.set_rebuilt.ensures.known leaves in
     rw (← c.still.view_is) (subst (λ (w : Work). AreStepsFewer a.epoch.entries.items c.append_after_losses.new.epoch.entries.items (still_left a.work a.members a.ahead) (still_left w m a.ahead)) (sym c.set_rebuilt.ensures.work)
     (fewer-more (planned-same a.ahead (shapes-moved did.moved))
-    (steps-fewer (with_rebuilt role 0 a.work) (left_of a.work a.members) c.args.who end (Step RebuildTaken c.all_left-left.result ∷ []) did.moved since less c.append_after_losses.ensures.items)))
+    (steps-fewer (with_rebuilt role 0 a.work) (left_of a.work a.members) c.args.who end (Step RebuildTaken c.left_at_rest-left.result ∷ []) did.moved since less c.append_after_losses.ensures.items)))
 
 pub returns-clause-work : goal.returns-clause-work
 returns-clause-work g c = rw (← c.still.view_is) c.set_rebuilt.ensures.work
 
 pub returns-clause-caused : goal.returns-clause-caused
-returns-clause-caused g c = rw (← c.still.view_is) (omega arith, λ refusal many. never-both c.still.inside.members refusal c.in_default.ensures many)
+returns-clause-caused g c =
+    rw (← c.still.view_is) (omega arith, λ refusal many. never-both c.still.inside.members refusal c.in_default.ensures many)
 
 -- ---- the call goes on
 
 pub returns-clause-open : goal.returns-clause-open
-returns-clause-open g c = step-going c.args.who c.ops-end.result c.newly_unassigned-roles.result c.give_and_name-spares.result (Step RebuildTaken c.all_left-left.result) c.requires.open tt (ap (λ p. p.parts.entries) c.still.view_is) c.append_after_losses.ensures.items
+returns-clause-open g c =
+    step-going c.args.who c.ops-end.result c.newly_unassigned-roles.result c.give_and_name-spares.result (Step RebuildTaken c.left_at_rest-left.result) c.requires.open tt (ap (λ p. p.parts.entries) c.still.view_is) c.append_after_losses.ensures.items
 
 pub returns-clause-closable : goal.returns-clause-closable
 returns-clause-closable g c = λ none. inr (inl c.give_and_name-spares.ensures.missing)
@@ -279,7 +284,7 @@ pub check_going-requires : goal.check_going-requires
 check_going-requires g c = subst (λ p. IsCallGoing p.parts.entries c.args.who) (sym c.still.view_is) c.requires.open
 
 pub unassigned_roles-requires-clause-known : goal.unassigned_roles-requires-clause-known
-unassigned_roles-requires-clause-known g c = known-at c.still.invariant.kept.members_are.placed c.shape_in-disks.ensures
+unassigned_roles-requires-clause-known g c = known-at (alike c.still.invariant).kept.members_are.placed c.shape_in-disks.ensures
 
 pub give_and_name-spares-requires-clause-role : goal.give_and_name-spares-requires-clause-role
 give_and_name-spares-requires-clause-role g c = subst (λ p. c.args.role < (shape_of p.parts.members.newest).disks) (sym c.still.view_is) c.requires.role
@@ -287,25 +292,27 @@ give_and_name-spares-requires-clause-role g c = subst (λ p. c.args.role < (shap
 pub newly_unassigned-roles-requires-clause-known : goal.newly_unassigned-roles-requires-clause-known
 newly_unassigned-roles-requires-clause-known g c = known-behind c.give_and_name-spares.ensures.moved c.shape_in-disks.ensures
 
-pub all_left-left-requires-clause-shape : goal.all_left-left-requires-clause-shape
-all_left-left-requires-clause-shape g c = c.give_and_name-spares.ensures.moved.placed.fit.valid.old
+pub left_at_rest-left-requires-clause-shape : goal.left_at_rest-left-requires-clause-shape
+left_at_rest-left-requires-clause-shape g c = c.give_and_name-spares.ensures.moved.placed.fit.valid.old
 
-pub all_left-left-requires-clause-size : goal.all_left-left-requires-clause-size
-all_left-left-requires-clause-size g c = short (g.B.Bank.given c.still.inside.bank) c.give_and_name-spares.new.members c.give_and_name-spares.ensures.moved.placed
+pub left_at_rest-left-requires-clause-size : goal.left_at_rest-left-requires-clause-size
+left_at_rest-left-requires-clause-size g c =
+    short (g.B.Bank.given c.still.inside.bank) c.give_and_name-spares.new.members c.give_and_name-spares.ensures.moved.placed
 
-pub all_left-left-requires-clause-roles : goal.all_left-left-requires-clause-roles
-all_left-left-requires-clause-roles g c = known-at c.give_and_name-spares.ensures.moved.placed refl
+pub left_at_rest-left-requires-clause-roles : goal.left_at_rest-left-requires-clause-roles
+left_at_rest-left-requires-clause-roles g c = known-at c.give_and_name-spares.ensures.moved.placed refl
 
-pub all_left-left-requires-clause-progress : goal.all_left-left-requires-clause-progress
-all_left-left-requires-clause-progress g c =
+pub left_at_rest-left-requires-clause-progress : goal.left_at_rest-left-requires-clause-progress
+left_at_rest-left-requires-clause-progress g c =
     subst (λ (w : Work). IfSome w.resync (λ mended. mended ≤ stripes_of c.give_and_name-spares.new.members)) (sym c.set_rebuilt.ensures.work)
-    (progress-same c.give_and_name-spares.ensures.moved c.still.inside.work.resync c.still.invariant.kept.progress)
+    (progress-same c.give_and_name-spares.ensures.moved c.still.inside.work.resync (c.still.invariant.rests (ap (λ p. is_reshaping p.parts.members.newest) c.still.view_is ∙ c.requires.still)).1.kept.progress)
 
-pub all_left-left-requires-clause-sound : goal.all_left-left-requires-clause-sound
-all_left-left-requires-clause-sound g c = sound-behind c.still.inside.ahead c.give_and_name-spares.ensures.moved c.still.invariant.planned
+pub left_at_rest-left-requires-clause-sound : goal.left_at_rest-left-requires-clause-sound
+left_at_rest-left-requires-clause-sound g c =
+    sound-behind c.still.inside.ahead c.give_and_name-spares.ensures.moved (c.still.invariant.rests (ap (λ p. is_reshaping p.parts.members.newest) c.still.view_is ∙ c.requires.still)).1.planned
 
 pub append_after_losses-requires-clause-room : goal.append_after_losses-requires-clause-room
-append_after_losses-requires-clause-room g c = room-for-step (ap (λ p. p.parts.steps) c.still.view_is) c.still.invariant.room_left c.requires.room
+append_after_losses-requires-clause-room g c = room-for-step (ap (λ p. p.parts.steps) c.still.view_is) (alike c.still.invariant).room_left c.requires.room
 
 pub append_after_losses-requires-clause-number : goal.append_after_losses-requires-clause-number
 append_after_losses-requires-clause-number g c = c.check_going.ensures
@@ -319,7 +326,8 @@ pub returns-in-Some-clause-memory : goal.returns-in-Some-clause-memory
 returns-in-Some-clause-memory g c = refused-at-all c.in-Some.refusal
 
 pub returns-clause-entered : goal.returns-clause-entered
-returns-clause-entered g c = inl (step-entered c.args.who c.ops-end.result c.newly_unassigned-roles.result c.give_and_name-spares.result RebuildTaken (ap (λ p. p.parts.entries) c.still.view_is) c.all_left-left.ensures c.append_after_losses.ensures.items)
+returns-clause-entered g c =
+    inl (step-entered c.args.who c.ops-end.result c.newly_unassigned-roles.result c.give_and_name-spares.result RebuildTaken (ap (λ p. p.parts.entries) c.still.view_is) c.left_at_rest-left.ensures c.append_after_losses.ensures.items)
 
 pub returns-clause-memory : goal.returns-clause-memory
 returns-clause-memory g c = done-at-all tt
@@ -332,3 +340,9 @@ returns-clause-room g c = step-taken (ap (λ p. p.parts.steps) c.still.view_is) 
 
 pub returns-clause-given : goal.returns-clause-given
 returns-clause-given g c = c.give_and_name-spares.ensures.given ∙ ap (λ p. g.B.Bank.given p.parts.bank) c.still.view_is
+
+pub returns-in-Some-clause-still : goal.returns-in-Some-clause-still
+returns-in-Some-clause-still g c = c.refuse_step.ensures.still
+
+pub returns-clause-still : goal.returns-clause-still
+returns-clause-still g c = c.give_and_name-spares.ensures.moved.reshape.reshaping ∙ (ap (λ p. is_reshaping p.parts.members.newest) c.still.view_is ∙ c.requires.still)

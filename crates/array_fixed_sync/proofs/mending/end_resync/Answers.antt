@@ -1,38 +1,39 @@
 use Rattle.std.proofs.Common.{◌≤◌, [], ◌∷◌, ◌++◌, false, None, inl, inr, refl, sym, ◌∙◌, ap, subst, arith}
-use Rattle.array_fixed.specs.raid_types_the_Shape.{Shape}
-use Rattle.array_fixed.specs.sb_specs_Reading.{list_length}
-use Rattle.array_fixed.specs.history_the_Event_TheVariants.{Refused, Step}
-use Rattle.array_fixed.specs.history_the_StepKind_TheVariants.{ResyncEnded}
-use Rattle.array_fixed.specs.history_Plain.{entries_of}
-use Rattle.array_fixed.specs.array_members_Lacking.{AreLostSince, AreTooMany, AreHoldersFlushed}
-use Rattle.array_fixed.specs.array_members_Status.{left_of}
-use Rattle.array_fixed.proofs.array_members_LackingLaws.{lost-since, never-both}
-use Rattle.array_fixed.proofs.array_members_Still.{count-still}
-use Rattle.array_fixed.specs.history_append_Losing.{losses_of}
-use Rattle.array_fixed.specs.array_call_specs_Calls.{IsAllSynced, AreSparesFewer}
-use Rattle.array_fixed.proofs.array_call_specs_LossLaws.{losses-behind, ended-behind}
-use Rattle.array_fixed.proofs.array_call_specs_ReadyLaws.{scope-same}
-use Rattle.array_fixed.proofs.array_call_specs_ReplyLaws.{too-many-of, refused-for}
-use Rattle.array_fixed.proofs.array_call_specs_StepsLeft.{left-ended, steps-fewer, steps-kept}
-use Rattle.array_fixed.specs.history_invariant_Recorded.{IsCallGoing}
-use Rattle.array_fixed.specs.array_specs_Parts.{visible_size}
-use Rattle.array_fixed.proofs.array_fixed_invariant_Flushing.{IsFlushedStill, IsSettledStill}
-use Rattle.array_fixed.specs.array_specs_Calls.{moving_world}
-use Rattle.array_fixed.specs.array_specs_Plans.{ArePlansKept}
-use Rattle.array_fixed.proofs.array_specs_Called.{risen-told}
-use Rattle.array_fixed.proofs.array_specs_Lengths.{alone-keeps, behind-keeps}
-use Rattle.array_fixed.proofs.array_fixed_laws_Kept.{ready, rows-moved}
-use Rattle.array_fixed.proofs.array_fixed_laws_Going.{step-going}
-use Rattle.array_fixed.proofs.array_fixed_laws_StepLaws.{refused-of, shapes-moved, planned-same, stepped, fewer-more, kept-more}
-use Rattle.array_fixed.proofs.array_fixed_laws_ResyncLaws.{resync-done, resync-refused}
-use Rattle.array_fixed.proofs.array_call_specs_DegradedLaws.{too-many-here}
-use Rattle.array_fixed.proofs.array_fixed_laws_PlainBehind.{plain-refused}
-use Rattle.array_fixed.proofs.array_fixed_laws_PlainSteps.{resynced-plain}
-use Rattle.array_fixed.specs.array_members_the_Work.{Work}
-use Rattle.array_fixed.proofs.array_members_Fit.{short}
-use Rattle.array_fixed.proofs.Asked.{known-at, few-at, known-behind, sound-behind, step-taken, room-for-step, one-entered, step-behind, room-after}
-use Rattle.array_fixed.specs.array_members_Placed.{AreStillHeld}
-use Rattle.array_fixed.specs.stripe_row_Rows.{reading_of}
+use Rattle.array_type.specs.raid_types_the_Shape.{Shape}
+use Rattle.array_type.specs.sb_specs_Reading.{list_length, is_reshaping}
+use Rattle.array_type.specs.history_the_Event_TheVariants.{Refused, Step}
+use Rattle.array_type.specs.history_the_StepKind_TheVariants.{ResyncEnded}
+use Rattle.array_type.specs.history_Plain.{entries_of}
+use Rattle.array_type.specs.array_members_Lacking.{AreLostSince, AreTooMany, AreHoldersFlushed}
+use Rattle.array_type.specs.array_members_Status.{left_of}
+use Rattle.array_type.proofs.array_members_LackingLaws.{lost-since, never-both}
+use Rattle.array_type.proofs.array_members_Still.{count-still}
+use Rattle.array_type.specs.history_append_Losing.{losses_of}
+use Rattle.array_type.specs.array_call_specs_Calls.{IsAllSynced, AreSparesFewer}
+use Rattle.array_type.proofs.array_call_specs_LossLaws.{losses-behind, ended-behind}
+use Rattle.array_type.proofs.array_call_specs_ReadyLaws.{scope-same}
+use Rattle.array_type.proofs.array_call_specs_ReplyLaws.{too-many-of, refused-for}
+use Rattle.array_type.proofs.array_call_specs_StepsLeft.{left-ended, steps-fewer, steps-kept}
+use Rattle.array_type.specs.history_invariant_Recorded.{IsCallGoing}
+use Rattle.array_type.specs.array_specs_Parts.{visible_size}
+use Rattle.array_type.proofs.array_fixed_invariant_Flushing.{IsFlushedStill, IsSettledStill}
+use Rattle.array_type.specs.array_specs_Calls.{moving_world}
+use Rattle.array_type.specs.array_specs_Plans.{ArePlansKept}
+use Rattle.array_type.proofs.array_specs_Called.{risen-told}
+use Rattle.array_type.proofs.array_specs_Lengths.{alone-keeps, behind-keeps}
+use Rattle.array_type.proofs.array_fixed_laws_Kept.{ready, rows-moved}
+use Rattle.array_type.proofs.array_fixed_laws_Going.{step-going}
+use Rattle.array_type.proofs.array_fixed_laws_StepLaws.{refused-of, shapes-moved, planned-same, stepped, fewer-more, kept-more}
+use Rattle.array_type.proofs.array_fixed_laws_ResyncLaws.{resync-done, resync-refused}
+use Rattle.array_type.proofs.array_call_specs_DegradedLaws.{too-many-here}
+use Rattle.array_type.proofs.array_fixed_laws_PlainBehind.{plain-refused}
+use Rattle.array_type.proofs.array_fixed_laws_PlainSteps.{resynced-plain}
+use Rattle.array_type.specs.array_members_the_Work.{Work}
+use Rattle.array_type.proofs.array_members_Fit.{short}
+use Rattle.array_type.proofs.Asked.{known-at, few-at, known-behind, sound-behind, step-taken, room-for-step, one-entered, step-behind, room-after}
+use Rattle.array_type.specs.array_members_Placed.{AreStillHeld}
+use Rattle.array_type.specs.stripe_row_Rows.{reading_of}
+use Rattle.array_type.proofs.Alike.{alike, stays-at-rest}
 use Rattle.array_fixed_sync.proofs.mending.end_resync.Goals as goal
 
 -- ---- refused before anything is done
@@ -55,7 +56,8 @@ returns-in-Some-clause-caused g c =
 
 pub invariant_of-still : goal.invariant_of-still
 invariant_of-still g c =
-    let was = c.still.invariant in
+    stays-at-rest (c.still.invariant.rests (ap (λ p. is_reshaping p.parts.members.newest) c.still.view_is ∙ c.requires.still)).0 (
+    let was = (c.still.invariant.rests (ap (λ p. is_reshaping p.parts.members.newest) c.still.view_is ∙ c.requires.still)).1 in
     let here = was.kept.members_are in
     let a = c.still.inside in
     let given = g.B.Bank.given a.bank in
@@ -87,11 +89,11 @@ invariant_of-still g c =
     (too-many-here (visible_size a.members a.limit) a.work.resync m refusal (refused-of (AreTooMany m) c.flush_and_mark-settled.result.refusal refusal c.in-Some-refusal.is did.refused)))
     did.keeps.bank.counts (behind-keeps c.args.who end roles spares (Refused refusal ∷ []) (alone-keeps c.args.who end (Refused refusal) (λ n. refl) (λ limit. refl)))
     did.keeps.bank.same (scope-same given a.backup did.keeps.bank.same c.append_after_losses.ensures.uuid c.append_after_losses.ensures.given) c.append_after_losses.ensures.first refl c.append_after_losses.ensures.items
-    (room-after was.room_left some c.append_after_losses.ensures.room)
+    (room-after was.room_left some c.append_after_losses.ensures.room))
 
 pub returns-in-Some-refusal-clause-stepped : goal.returns-in-Some-refusal-clause-stepped
 returns-in-Some-refusal-clause-stepped g c =
-    let was = c.still.invariant in
+    let was = (c.still.invariant.rests (ap (λ p. is_reshaping p.parts.members.newest) c.still.view_is ∙ c.requires.still)).1 in
     let here = was.kept.members_are in
     let a = c.still.inside in
     let given = g.B.Bank.given a.bank in
@@ -115,7 +117,7 @@ returns-in-Some-refusal-clause-stepped g c =
 
 pub returns-in-Some-refusal-clause-stays : goal.returns-in-Some-refusal-clause-stays
 returns-in-Some-refusal-clause-stays g c =
-    let was = c.still.invariant in
+    let was = (c.still.invariant.rests (ap (λ p. is_reshaping p.parts.members.newest) c.still.view_is ∙ c.requires.still)).1 in
     let here = was.kept.members_are in
     let a = c.still.inside in
     let did = c.flush_and_mark-settled.ensures in
@@ -138,16 +140,19 @@ returns-in-Some-refusal-clause-caused g c =
     rw (← c.still.view_is) (refused-for (list_length a.members.newest) 0 AreTooMany a.members m refusal (too-many-of m refusal many) (omega arith) many)
 
 pub returns-in-Some-refusal-clause-held : goal.returns-in-Some-refusal-clause-held
-returns-in-Some-refusal-clause-held g c = subst (λ p. AreStillHeld p.parts.members c.flush_and_mark-settled.new.members) c.still.view_is c.flush_and_mark-settled.ensures.keeps.moved.held
+returns-in-Some-refusal-clause-held g c =
+    subst (λ p. AreStillHeld p.parts.members c.flush_and_mark-settled.new.members) c.still.view_is c.flush_and_mark-settled.ensures.keeps.moved.held
 
 pub returns-in-Some-refusal-clause-spares : goal.returns-in-Some-refusal-clause-spares
-returns-in-Some-refusal-clause-spares g c = subst (λ p. AreSparesFewer p.parts.members c.flush_and_mark-settled.new.members) c.still.view_is c.flush_and_mark-settled.ensures.keeps.moved.fewer
+returns-in-Some-refusal-clause-spares g c =
+    subst (λ p. AreSparesFewer p.parts.members c.flush_and_mark-settled.new.members) c.still.view_is c.flush_and_mark-settled.ensures.keeps.moved.fewer
 
 -- ---- ended
 
 pub invariant_of-still-2 : goal.invariant_of-still-2
 invariant_of-still-2 g c =
-    let was = c.still.invariant in
+    stays-at-rest (c.still.invariant.rests (ap (λ p. is_reshaping p.parts.members.newest) c.still.view_is ∙ c.requires.still)).0 (
+    let was = (c.still.invariant.rests (ap (λ p. is_reshaping p.parts.members.newest) c.still.view_is ∙ c.requires.still)).1 in
     let here = was.kept.members_are in
     let a = c.still.inside in
     let given = g.B.Bank.given a.bank in
@@ -162,7 +167,7 @@ invariant_of-still-2 g c =
     let roles = c.newly_unassigned-roles.result in
     let spares = c.flush_and_mark-settled.result.spares in
     let end = c.ops-end.result in
-    let left = c.all_left-left.result in
+    let left = c.left_at_rest-left.result in
     let since : AreLostSince a.members m roles spares before after = lost-since given a.members m c.shape_in-disks.result.disks c.unassigned_roles-before.result roles spares before after here.placed did.keeps.moved did.keeps.failed
     (ap (λ (s : Shape). s.disks) c.shape_in-disks.ensures ∙ sym (count-still a.members.newest here.still)) c.unassigned_roles-before.ensures c.newly_unassigned-roles.ensures in
     let leaves : IsFlushedStill g.B.Bank.tells given (g.B.Bank.tape a.bank) (g.B.Bank.tape c.flush_and_mark-settled.new.bank) a.members m roles spares before after false = record {
@@ -179,15 +184,15 @@ invariant_of-still-2 g c =
       settled = did.settled c.in_default-refusal.is;
     } in
     ready (entries_of c.args.who end (losses_of roles spares ++ Step ResyncEnded left ∷ [])) was (rows-moved given a.members m did.keeps.moved)
-    (resync-done a.ahead c.args.who end roles spares was.kept c.in_default.ensures goes c.requires.caller c.ops-end.ensures.count all leaves left c.all_left-left.ensures plans done)
-    (resynced-plain was c.args.who end goes c.requires.caller c.ops-end.ensures.count did.keeps.bank.grows did.keeps.moved since left all c.all_left-left.ensures)
+    (resync-done a.ahead c.args.who end roles spares was.kept c.in_default.ensures goes c.requires.caller c.ops-end.ensures.count all leaves left c.left_at_rest-left.ensures plans done)
+    (resynced-plain was c.args.who end goes c.requires.caller c.ops-end.ensures.count did.keeps.bank.grows did.keeps.moved since left all c.left_at_rest-left.ensures)
     did.keeps.bank.counts (behind-keeps c.args.who end roles spares (Step ResyncEnded left ∷ []) (alone-keeps c.args.who end (Step ResyncEnded left) (λ n. refl) (λ limit. refl)))
     did.keeps.bank.same (scope-same given a.backup did.keeps.bank.same c.append_after_losses-2.ensures.uuid c.append_after_losses-2.ensures.given) c.append_after_losses-2.ensures.first refl c.append_after_losses-2.ensures.items
-    (room-after was.room_left some c.append_after_losses-2.ensures.room)
+    (room-after was.room_left some c.append_after_losses-2.ensures.room))
 
 pub returns-clause-stepped : goal.returns-clause-stepped
 returns-clause-stepped g c =
-    let was = c.still.invariant in
+    let was = (c.still.invariant.rests (ap (λ p. is_reshaping p.parts.members.newest) c.still.view_is ∙ c.requires.still)).1 in
     let here = was.kept.members_are in
     let a = c.still.inside in
     let given = g.B.Bank.given a.bank in
@@ -198,7 +203,7 @@ returns-clause-stepped g c =
     let roles = c.newly_unassigned-roles.result in
     let spares = c.flush_and_mark-settled.result.spares in
     let end = c.ops-end.result in
-    let event = Step ResyncEnded c.all_left-left.result in
+    let event = Step ResyncEnded c.left_at_rest-left.result in
     let since : AreLostSince a.members m roles spares before after = lost-since given a.members m c.shape_in-disks.result.disks c.unassigned_roles-before.result roles spares before after here.placed did.keeps.moved did.keeps.failed
     (ap (λ (s : Shape). s.disks) c.shape_in-disks.ensures ∙ sym (count-still a.members.newest here.still)) c.unassigned_roles-before.ensures c.newly_unassigned-roles.ensures in
     rw (← c.still.view_is) (stepped did.keeps.bank.grows (shapes-moved did.keeps.moved)
@@ -211,7 +216,7 @@ returns-clause-stepped g c =
 
 pub returns-clause-left : goal.returns-clause-left
 returns-clause-left g c =
-    let was = c.still.invariant in
+    let was = (c.still.invariant.rests (ap (λ p. is_reshaping p.parts.members.newest) c.still.view_is ∙ c.requires.still)).1 in
     let here = was.kept.members_are in
     let a = c.still.inside in
     let all : IsAllSynced a.work.resync a.members = subst (λ p. IsAllSynced p.parts.work.resync p.parts.members) (sym c.still.view_is) c.requires.pending in
@@ -224,31 +229,37 @@ returns-clause-left g c =
     let since : AreLostSince a.members m roles spares before after = lost-since (g.B.Bank.given a.bank) a.members m c.shape_in-disks.result.disks c.unassigned_roles-before.result roles spares before after here.placed did.keeps.moved did.keeps.failed
     (ap (λ (s : Shape). s.disks) c.shape_in-disks.ensures ∙ sym (count-still a.members.newest here.still)) c.unassigned_roles-before.ensures c.newly_unassigned-roles.ensures in
     rw (← c.still.view_is) (fewer-more (planned-same a.ahead (shapes-moved did.keeps.moved))
-    (steps-fewer (record a.work { resync = None }) (left_of a.work a.members) c.args.who c.ops-end.result (Step ResyncEnded c.all_left-left.result ∷ []) did.keeps.moved since
+    (steps-fewer (record a.work { resync = None }) (left_of a.work a.members) c.args.who c.ops-end.result (Step ResyncEnded c.left_at_rest-left.result ∷ []) did.keeps.moved since
     (left-ended a.work a.members all) c.append_after_losses-2.ensures.items))
 
 pub returns-clause-caused : goal.returns-clause-caused
-returns-clause-caused g c = rw (← c.still.view_is) (omega arith, λ refusal many. never-both c.still.inside.members refusal c.in_default.ensures many)
+returns-clause-caused g c =
+    rw (← c.still.view_is) (omega arith, λ refusal many. never-both c.still.inside.members refusal c.in_default.ensures many)
 
 pub returns-clause-good : goal.returns-clause-good
 returns-clause-good g c = λ t does fit row low. ((invariant_of-still-2 g c).kept.listed t does (inr fit)).rows fit row low low
 
 pub returns-clause-flushed : goal.returns-clause-flushed
-returns-clause-flushed g c = subst (λ p. g.B.Bank.tells → AreHoldersFlushed (reading_of c.flush_and_mark-settled.new.members) (g.B.Bank.given p.parts.bank) (g.B.Bank.tape c.flush_and_mark-settled.new.bank)) c.still.view_is c.flush_and_mark-settled.ensures.flushed
+returns-clause-flushed g c =
+    subst (λ p. g.B.Bank.tells → AreHoldersFlushed (reading_of c.flush_and_mark-settled.new.members) (g.B.Bank.given p.parts.bank) (g.B.Bank.tape c.flush_and_mark-settled.new.bank)) c.still.view_is c.flush_and_mark-settled.ensures.flushed
 
 pub returns-clause-held : goal.returns-clause-held
-returns-clause-held g c = subst (λ p. AreStillHeld p.parts.members c.flush_and_mark-settled.new.members) c.still.view_is c.flush_and_mark-settled.ensures.keeps.moved.held
+returns-clause-held g c =
+    subst (λ p. AreStillHeld p.parts.members c.flush_and_mark-settled.new.members) c.still.view_is c.flush_and_mark-settled.ensures.keeps.moved.held
 
 pub returns-clause-spares : goal.returns-clause-spares
-returns-clause-spares g c = subst (λ p. AreSparesFewer p.parts.members c.flush_and_mark-settled.new.members) c.still.view_is c.flush_and_mark-settled.ensures.keeps.moved.fewer
+returns-clause-spares g c =
+    subst (λ p. AreSparesFewer p.parts.members c.flush_and_mark-settled.new.members) c.still.view_is c.flush_and_mark-settled.ensures.keeps.moved.fewer
 
 -- ---- the call goes on
 
 pub returns-in-Some-refusal-clause-open : goal.returns-in-Some-refusal-clause-open
-returns-in-Some-refusal-clause-open g c = step-going c.args.who c.ops-end.result c.newly_unassigned-roles.result c.flush_and_mark-settled.result.spares (Refused c.in-Some-refusal.refusal) c.requires.open tt (ap (λ p. p.parts.entries) c.still.view_is) c.append_after_losses.ensures.items
+returns-in-Some-refusal-clause-open g c =
+    step-going c.args.who c.ops-end.result c.newly_unassigned-roles.result c.flush_and_mark-settled.result.spares (Refused c.in-Some-refusal.refusal) c.requires.open tt (ap (λ p. p.parts.entries) c.still.view_is) c.append_after_losses.ensures.items
 
 pub returns-clause-open : goal.returns-clause-open
-returns-clause-open g c = step-going c.args.who c.ops-end.result c.newly_unassigned-roles.result c.flush_and_mark-settled.result.spares (Step ResyncEnded c.all_left-left.result) c.requires.open tt (ap (λ p. p.parts.entries) c.still.view_is) c.append_after_losses-2.ensures.items
+returns-clause-open g c =
+    step-going c.args.who c.ops-end.result c.newly_unassigned-roles.result c.flush_and_mark-settled.result.spares (Step ResyncEnded c.left_at_rest-left.result) c.requires.open tt (ap (λ p. p.parts.entries) c.still.view_is) c.append_after_losses-2.ensures.items
 
 -- ---- what the calls ask
 
@@ -256,37 +267,39 @@ pub check_going-requires : goal.check_going-requires
 check_going-requires g c = subst (λ p. IsCallGoing p.parts.entries c.args.who) (sym c.still.view_is) c.requires.open
 
 pub unassigned_roles-before-requires-clause-known : goal.unassigned_roles-before-requires-clause-known
-unassigned_roles-before-requires-clause-known g c = known-at c.still.invariant.kept.members_are.placed c.shape_in-disks.ensures
+unassigned_roles-before-requires-clause-known g c = known-at (alike c.still.invariant).kept.members_are.placed c.shape_in-disks.ensures
 
 pub unassigned_roles-before-requires-clause-few : goal.unassigned_roles-before-requires-clause-few
-unassigned_roles-before-requires-clause-few g c = few-at c.still.invariant.kept.members_are.placed c.shape_in-disks.ensures
+unassigned_roles-before-requires-clause-few g c = few-at (alike c.still.invariant).kept.members_are.placed c.shape_in-disks.ensures
 
 pub newly_unassigned-roles-requires-clause-known : goal.newly_unassigned-roles-requires-clause-known
 newly_unassigned-roles-requires-clause-known g c = known-behind c.flush_and_mark-settled.ensures.keeps.moved c.shape_in-disks.ensures
 
 pub newly_unassigned-roles-requires-clause-few : goal.newly_unassigned-roles-requires-clause-few
-newly_unassigned-roles-requires-clause-few g c = few-at c.still.invariant.kept.members_are.placed c.shape_in-disks.ensures
+newly_unassigned-roles-requires-clause-few g c = few-at (alike c.still.invariant).kept.members_are.placed c.shape_in-disks.ensures
 
-pub all_left-left-requires-clause-shape : goal.all_left-left-requires-clause-shape
-all_left-left-requires-clause-shape g c = c.flush_and_mark-settled.ensures.keeps.moved.placed.fit.valid.old
+pub left_at_rest-left-requires-clause-shape : goal.left_at_rest-left-requires-clause-shape
+left_at_rest-left-requires-clause-shape g c = c.flush_and_mark-settled.ensures.keeps.moved.placed.fit.valid.old
 
-pub all_left-left-requires-clause-size : goal.all_left-left-requires-clause-size
-all_left-left-requires-clause-size g c = short (g.B.Bank.given c.still.inside.bank) c.flush_and_mark-settled.new.members c.flush_and_mark-settled.ensures.keeps.moved.placed
+pub left_at_rest-left-requires-clause-size : goal.left_at_rest-left-requires-clause-size
+left_at_rest-left-requires-clause-size g c =
+    short (g.B.Bank.given c.still.inside.bank) c.flush_and_mark-settled.new.members c.flush_and_mark-settled.ensures.keeps.moved.placed
 
-pub all_left-left-requires-clause-roles : goal.all_left-left-requires-clause-roles
-all_left-left-requires-clause-roles g c = known-at c.flush_and_mark-settled.ensures.keeps.moved.placed refl
+pub left_at_rest-left-requires-clause-roles : goal.left_at_rest-left-requires-clause-roles
+left_at_rest-left-requires-clause-roles g c = known-at c.flush_and_mark-settled.ensures.keeps.moved.placed refl
 
-pub all_left-left-requires-clause-sound : goal.all_left-left-requires-clause-sound
-all_left-left-requires-clause-sound g c = sound-behind c.still.inside.ahead c.flush_and_mark-settled.ensures.keeps.moved c.still.invariant.planned
+pub left_at_rest-left-requires-clause-sound : goal.left_at_rest-left-requires-clause-sound
+left_at_rest-left-requires-clause-sound g c =
+    sound-behind c.still.inside.ahead c.flush_and_mark-settled.ensures.keeps.moved (c.still.invariant.rests (ap (λ p. is_reshaping p.parts.members.newest) c.still.view_is ∙ c.requires.still)).1.planned
 
 pub append_after_losses-requires-clause-room : goal.append_after_losses-requires-clause-room
-append_after_losses-requires-clause-room g c = room-for-step (ap (λ p. p.parts.steps) c.still.view_is) c.still.invariant.room_left c.requires.room
+append_after_losses-requires-clause-room g c = room-for-step (ap (λ p. p.parts.steps) c.still.view_is) (alike c.still.invariant).room_left c.requires.room
 
 pub append_after_losses-requires-clause-number : goal.append_after_losses-requires-clause-number
 append_after_losses-requires-clause-number g c = c.check_going.ensures
 
 pub append_after_losses-requires-2-clause-room : goal.append_after_losses-requires-2-clause-room
-append_after_losses-requires-2-clause-room g c = room-for-step (ap (λ p. p.parts.steps) c.still.view_is) c.still.invariant.room_left c.requires.room
+append_after_losses-requires-2-clause-room g c = room-for-step (ap (λ p. p.parts.steps) c.still.view_is) (alike c.still.invariant).room_left c.requires.room
 
 pub append_after_losses-requires-2-clause-number : goal.append_after_losses-requires-2-clause-number
 append_after_losses-requires-2-clause-number g c = c.check_going.ensures
@@ -297,7 +310,8 @@ pub returns-in-Some-clause-stays : goal.returns-in-Some-clause-stays
 returns-in-Some-clause-stays g c = c.refuse_step.ensures.stays
 
 pub returns-in-Some-refusal-clause-entered : goal.returns-in-Some-refusal-clause-entered
-returns-in-Some-refusal-clause-entered g c = one-entered c.args.who c.ops-end.result c.newly_unassigned-roles.result c.flush_and_mark-settled.result.spares (Refused c.in-Some-refusal.refusal) (ap (λ p. p.parts.entries) c.still.view_is) c.append_after_losses.ensures.items
+returns-in-Some-refusal-clause-entered g c =
+    one-entered c.args.who c.ops-end.result c.newly_unassigned-roles.result c.flush_and_mark-settled.result.spares (Refused c.in-Some-refusal.refusal) (ap (λ p. p.parts.entries) c.still.view_is) c.append_after_losses.ensures.items
 
 pub returns-in-Some-refusal-clause-work : goal.returns-in-Some-refusal-clause-work
 returns-in-Some-refusal-clause-work g c = ap (λ p. p.parts.work) c.still.view_is
@@ -309,7 +323,8 @@ pub returns-in-Some-refusal-clause-given : goal.returns-in-Some-refusal-clause-g
 returns-in-Some-refusal-clause-given g c = c.flush_and_mark-settled.ensures.keeps.bank.same ∙ ap (λ p. g.B.Bank.given p.parts.bank) c.still.view_is
 
 pub returns-clause-entered : goal.returns-clause-entered
-returns-clause-entered g c = step-behind c.args.who c.ops-end.result c.newly_unassigned-roles.result c.flush_and_mark-settled.result.spares ResyncEnded (ap (λ p. p.parts.entries) c.still.view_is) c.all_left-left.ensures c.append_after_losses-2.ensures.items
+returns-clause-entered g c =
+    step-behind c.args.who c.ops-end.result c.newly_unassigned-roles.result c.flush_and_mark-settled.result.spares ResyncEnded (ap (λ p. p.parts.entries) c.still.view_is) c.left_at_rest-left.ensures c.append_after_losses-2.ensures.items
 
 pub returns-clause-work : goal.returns-clause-work
 returns-clause-work g c = ap (λ (w : Work). record w { resync = None }) (ap (λ p. p.parts.work) c.still.view_is)
@@ -327,11 +342,21 @@ pub returns-clause-given : goal.returns-clause-given
 returns-clause-given g c = c.flush_and_mark-settled.ensures.keeps.bank.same ∙ ap (λ p. g.B.Bank.given p.parts.bank) c.still.view_is
 
 pub flush_and_mark-settled-requires : goal.flush_and_mark-settled-requires
-flush_and_mark-settled-requires g c = record {
+flush_and_mark-settled-requires g c =
+    record {
   stands = record {
-    slots = c.still.invariant.kept.slots;
-    placed = c.still.invariant.kept.members_are.placed;
-    unlost = c.still.invariant.kept.members_are.unlost;
-    free = c.still.invariant.kept.members_are.free;
+    slots = (alike c.still.invariant).kept.slots;
+    placed = (alike c.still.invariant).kept.members_are.placed;
+    unlost = (alike c.still.invariant).kept.members_are.unlost;
+    free = (alike c.still.invariant).kept.members_are.free;
   };
 }
+
+pub returns-in-Some-clause-still : goal.returns-in-Some-clause-still
+returns-in-Some-clause-still g c = c.refuse_step.ensures.still
+
+pub returns-in-Some-refusal-clause-still : goal.returns-in-Some-refusal-clause-still
+returns-in-Some-refusal-clause-still g c = c.flush_and_mark-settled.ensures.keeps.moved.reshape.reshaping ∙ (ap (λ p. is_reshaping p.parts.members.newest) c.still.view_is ∙ c.requires.still)
+
+pub returns-clause-still : goal.returns-clause-still
+returns-clause-still g c = c.flush_and_mark-settled.ensures.keeps.moved.reshape.reshaping ∙ (ap (λ p. is_reshaping p.parts.members.newest) c.still.view_is ∙ c.requires.still)

@@ -1,37 +1,38 @@
 use Rattle.std.proofs.Common.{◌≡◌, ◌≤◌, ◌<◌, ◌/◌, ◌+◌, [], ◌∷◌, ◌++◌, false, Some, inl, refl, sym, ◌∙◌, ap, subst, arith, Option, ℕ}
-use Rattle.array_fixed.specs.raid_types_the_Shape.{Shape}
-use Rattle.array_fixed.specs.sb_specs_Reading.{list_length, shape_of}
-use Rattle.array_fixed.specs.history_the_Event_TheVariants.{Refused, Step}
-use Rattle.array_fixed.specs.history_the_StepKind_TheVariants.{ResyncStripe}
-use Rattle.array_fixed.specs.history_Plain.{entries_of}
-use Rattle.array_fixed.specs.array_members_Lacking.{AreLostSince, IsUnwritten}
-use Rattle.array_fixed.specs.array_members_Status.{left_of}
-use Rattle.array_fixed.proofs.array_members_LackingLaws.{lost-since, does-without}
-use Rattle.array_fixed.proofs.array_members_Still.{count-still}
-use Rattle.array_fixed.specs.history_append_Losing.{losses_of}
-use Rattle.array_fixed.specs.sb_safe_updates_First.{write_refusal}
-use Rattle.array_fixed.specs.array_call_specs_Calls.{HasStripeLeft, IsUnmendable, one_more, AreSparesFewer}
-use Rattle.array_fixed.proofs.array_call_specs_LossLaws.{losses-behind, ended-behind}
-use Rattle.array_fixed.proofs.array_call_specs_ReadyLaws.{scope-same}
-use Rattle.array_fixed.proofs.array_call_specs_ReplyLaws.{unwritten-of, refused-for}
-use Rattle.array_fixed.proofs.array_call_specs_StepsLeft.{left-mended, steps-fewer, steps-kept}
-use Rattle.array_fixed.proofs.array_state_UnmendableLaws.{unmendable-of, unwritten-then}
-use Rattle.array_fixed.proofs.array_call_laws_ResyncLaws.{is-pending, next-stripe}
-use Rattle.array_fixed.specs.history_invariant_Recorded.{IsCallGoing}
-use Rattle.array_fixed.specs.array_specs_Parts.{visible_size}
-use Rattle.array_fixed.proofs.array_fixed_invariant_Resync.{IsResyncingStill}
-use Rattle.array_fixed.proofs.array_specs_Called.{risen-told}
-use Rattle.array_fixed.proofs.array_specs_Lengths.{alone-keeps, behind-keeps}
-use Rattle.array_fixed.proofs.array_fixed_laws_Kept.{ready, rows-moved, with-buffers}
-use Rattle.array_fixed.proofs.array_fixed_laws_Going.{step-going}
-use Rattle.array_fixed.proofs.array_fixed_laws_StepLaws.{refused-of, shapes-moved, planned-same, stepped, fewer-more, kept-more}
-use Rattle.array_fixed.proofs.array_fixed_laws_ResyncLaws.{mend-done, mend-refused}
-use Rattle.array_fixed.proofs.array_fixed_laws_PlainBehind.{unmended-plain, plain-refused}
-use Rattle.array_fixed.proofs.array_fixed_laws_PlainSteps.{mended-plain}
-use Rattle.array_fixed.specs.array_members_Placed.{AreStillHeld}
-use Rattle.array_fixed.proofs.array_members_Fit.{valid, short}
-use Rattle.array_fixed.proofs.Rested.{one-less, pending-left, room-of-step, shape-few, shape-known, stripe-fits, stripe-more}
-use Rattle.array_fixed.proofs.Asked.{sound-behind}
+use Rattle.array_type.specs.raid_types_the_Shape.{Shape}
+use Rattle.array_type.specs.sb_specs_Reading.{list_length, shape_of, is_reshaping}
+use Rattle.array_type.specs.history_the_Event_TheVariants.{Refused, Step}
+use Rattle.array_type.specs.history_the_StepKind_TheVariants.{ResyncStripe}
+use Rattle.array_type.specs.history_Plain.{entries_of}
+use Rattle.array_type.specs.array_members_Lacking.{AreLostSince, IsUnwritten}
+use Rattle.array_type.specs.array_members_Status.{left_of}
+use Rattle.array_type.proofs.array_members_LackingLaws.{lost-since, does-without}
+use Rattle.array_type.proofs.array_members_Still.{count-still}
+use Rattle.array_type.specs.history_append_Losing.{losses_of}
+use Rattle.array_type.specs.sb_safe_updates_First.{write_refusal}
+use Rattle.array_type.specs.array_call_specs_Calls.{HasStripeLeft, IsUnmendable, one_more, AreSparesFewer}
+use Rattle.array_type.proofs.array_call_specs_LossLaws.{losses-behind, ended-behind}
+use Rattle.array_type.proofs.array_call_specs_ReadyLaws.{scope-same}
+use Rattle.array_type.proofs.array_call_specs_ReplyLaws.{unwritten-of, refused-for}
+use Rattle.array_type.proofs.array_call_specs_StepsLeft.{left-mended, steps-fewer, steps-kept}
+use Rattle.array_type.proofs.array_state_UnmendableLaws.{unmendable-of, unwritten-then}
+use Rattle.array_type.proofs.array_call_laws_ResyncLaws.{is-pending, next-stripe}
+use Rattle.array_type.specs.history_invariant_Recorded.{IsCallGoing}
+use Rattle.array_type.specs.array_specs_Parts.{visible_size}
+use Rattle.array_type.proofs.array_fixed_invariant_Resync.{IsResyncingStill}
+use Rattle.array_type.proofs.array_specs_Called.{risen-told}
+use Rattle.array_type.proofs.array_specs_Lengths.{alone-keeps, behind-keeps}
+use Rattle.array_type.proofs.array_fixed_laws_Kept.{ready, rows-moved, with-buffers}
+use Rattle.array_type.proofs.array_fixed_laws_Going.{step-going}
+use Rattle.array_type.proofs.array_fixed_laws_StepLaws.{refused-of, shapes-moved, planned-same, stepped, fewer-more, kept-more}
+use Rattle.array_type.proofs.array_fixed_laws_ResyncLaws.{mend-done, mend-refused}
+use Rattle.array_type.proofs.array_fixed_laws_PlainBehind.{unmended-plain, plain-refused}
+use Rattle.array_type.proofs.array_fixed_laws_PlainSteps.{mended-plain}
+use Rattle.array_type.specs.array_members_Placed.{AreStillHeld}
+use Rattle.array_type.proofs.array_members_Fit.{valid, short}
+use Rattle.array_type.proofs.Rested.{one-less, pending-left, room-of-step, shape-few, shape-known, stripe-fits, stripe-more}
+use Rattle.array_type.proofs.Asked.{sound-behind}
+use Rattle.array_type.proofs.Alike.{alike, stays-at-rest}
 use Rattle.array_fixed_sync.proofs.mending.resync_stripe.Goals as goal
 
 -- ---- refused before anything is done
@@ -40,8 +41,7 @@ pub refuse_step-requires-clause-why : goal.refuse_step-requires-clause-why
 refuse_step-requires-clause-why g c = rw (← c.still.view_is) c.in-Some.ensures.why
 
 pub refuse_step-requires-clause-synced : goal.refuse_step-requires-clause-synced
-refuse_step-requires-clause-synced g c =
-    λ none. absurd (subst (λ o. HasStripeLeft o c.args.still.now.parts.members) none c.requires.pending)
+refuse_step-requires-clause-synced g c = λ none. absurd (subst (λ o. HasStripeLeft o c.args.still.now.parts.members) none c.requires.pending)
 
 pub returns-in-Some-clause-caused : goal.returns-in-Some-clause-caused
 returns-in-Some-clause-caused g c =
@@ -50,7 +50,7 @@ returns-in-Some-clause-caused g c =
     let why : IsUnmendable c.args.still.now.parts.members refusal = subst (λ p. IsUnmendable p.parts.members refusal) c.still.view_is c.in-Some.ensures.why in
     let same = c.refuse_step.ensures.members in
     refused-for (list_length c.args.still.now.parts.members.newest) 0 IsUnmendable c.args.still.now.parts.members c.refuse_step.new.still.parts.members refusal
-    (unwritten-of _ false a.members refusal (unwritten-then a.members refusal c.still.invariant.kept.members_are.still c.in-Some.ensures.why)) (omega arith) (subst (λ m. IsUnmendable m refusal) (sym same) why)
+    (unwritten-of _ false a.members refusal (unwritten-then a.members refusal (c.still.invariant.rests (ap (λ p. is_reshaping p.parts.members.newest) c.still.view_is ∙ c.requires.still)).1.kept.members_are.still c.in-Some.ensures.why)) (omega arith) (subst (λ m. IsUnmendable m refusal) (sym same) why)
 
 -- ---- the stripe
 
@@ -68,13 +68,14 @@ pub resync_rows-mended-requires-clause-dirty : goal.resync_rows-mended-requires-
 resync_rows-mended-requires-clause-dirty g c =
     let a = c.still.inside in
     let left : HasStripeLeft a.work.resync a.members = subst (λ p. HasStripeLeft p.parts.work.resync p.parts.members) (sym c.still.view_is) c.requires.pending in
-    c.still.invariant.kept.dirty (does-without a.members (λ refusal many. c.in_default.ensures.why refusal (inl many))) (is-pending a.work.resync a.members left)
+    (alike c.still.invariant).kept.dirty (does-without a.members (λ refusal many. c.in_default.ensures.why refusal (inl many))) (is-pending a.work.resync a.members left)
 
 -- ---- it isn't mended
 
 pub invariant_of-still : goal.invariant_of-still
 invariant_of-still g c =
-    let was = c.still.invariant in
+    stays-at-rest (c.still.invariant.rests (ap (λ p. is_reshaping p.parts.members.newest) c.still.view_is ∙ c.requires.still)).0 (
+    let was = (c.still.invariant.rests (ap (λ p. is_reshaping p.parts.members.newest) c.still.view_is ∙ c.requires.still)).1 in
     let here = was.kept.members_are in
     let a = c.still.inside in
     let given = g.B.Bank.given a.bank in
@@ -115,11 +116,11 @@ invariant_of-still g c =
     (refused-of (IsUnwritten shape false m) c.resync_rows-mended.result.refusal refusal c.in-Some-refusal.is did.refused)))
     did.keeps.bank.counts (behind-keeps c.args.who end roles spares (Refused refusal ∷ []) (alone-keeps c.args.who end (Refused refusal) (λ n. refl) (λ limit. refl)))
     did.keeps.bank.same (scope-same given a.backup did.keeps.bank.same c.append_after_losses.ensures.uuid c.append_after_losses.ensures.given) c.append_after_losses.ensures.first refl c.append_after_losses.ensures.items
-    (omega (arith, c.append_after_losses.ensures.room, was.room_left, some)))
+    (omega (arith, c.append_after_losses.ensures.room, was.room_left, some))))
 
 pub returns-in-Some-refusal-clause-stepped : goal.returns-in-Some-refusal-clause-stepped
 returns-in-Some-refusal-clause-stepped g c =
-    let was = c.still.invariant in
+    let was = (c.still.invariant.rests (ap (λ p. is_reshaping p.parts.members.newest) c.still.view_is ∙ c.requires.still)).1 in
     let here = was.kept.members_are in
     let a = c.still.inside in
     let given = g.B.Bank.given a.bank in
@@ -143,7 +144,7 @@ returns-in-Some-refusal-clause-stepped g c =
 
 pub returns-in-Some-refusal-clause-stays : goal.returns-in-Some-refusal-clause-stays
 returns-in-Some-refusal-clause-stays g c =
-    let was = c.still.invariant in
+    let was = (c.still.invariant.rests (ap (λ p. is_reshaping p.parts.members.newest) c.still.view_is ∙ c.requires.still)).1 in
     let here = was.kept.members_are in
     let a = c.still.inside in
     let did = c.resync_rows-mended.ensures in
@@ -178,7 +179,8 @@ returns-in-Some-refusal-clause-first g c =
 
 pub invariant_of-still-2 : goal.invariant_of-still-2
 invariant_of-still-2 g c =
-    let was = c.still.invariant in
+    stays-at-rest (c.still.invariant.rests (ap (λ p. is_reshaping p.parts.members.newest) c.still.view_is ∙ c.requires.still)).0 (
+    let was = (c.still.invariant.rests (ap (λ p. is_reshaping p.parts.members.newest) c.still.view_is ∙ c.requires.still)).1 in
     let here = was.kept.members_are in
     let a = c.still.inside in
     let given = g.B.Bank.given a.bank in
@@ -196,7 +198,7 @@ invariant_of-still-2 g c =
     let next = next-stripe a.work.resync a.members stripe pending c.unwrap_or-stripe.ensures in
     let does = does-without a.members (λ refusal many. c.in_default.ensures.why refusal (inl many)) in
     let shape = c.shape_in-shape.result in
-    let left = c.all_left-left.result in
+    let left = c.left_at_rest-left.result in
     let since : AreLostSince a.members m roles spares before after = lost-since given a.members m shape.disks c.unassigned_roles-before.result roles spares before after here.placed did.keeps.moved did.keeps.failed
     (ap (λ (s : Shape). s.disks) c.shape_in-shape.ensures ∙ sym (count-still a.members.newest here.still)) c.unassigned_roles-before.ensures c.newly_unassigned-roles.ensures in
     let leaves : IsResyncingStill g.B.Bank.tells given (g.B.Bank.tape a.bank) (g.B.Bank.tape c.resync_rows-mended.new.bank) a.members m roles spares before after shape stripe = record {
@@ -212,16 +214,16 @@ invariant_of-still-2 g c =
       safe = did.safe;
     } in
     with-buffers (omega (arith, was.rows_fit, did.rows)) (rw did.buffer was.buffer_fits) (ready (entries_of c.args.who end (losses_of roles spares ++ Step ResyncStripe left ∷ [])) was (rows-moved given a.members m did.keeps.moved)
-    (mend-done a.ahead c.args.who end roles spares shape stripe was.kept does goes c.requires.caller c.ops-end.ensures.count c.shape_in-shape.ensures next.0 leaves left next.1 c.all_left-left.ensures
+    (mend-done a.ahead c.args.who end roles spares shape stripe was.kept does goes c.requires.caller c.ops-end.ensures.count c.shape_in-shape.ensures next.0 leaves left next.1 c.left_at_rest-left.ensures
     (did.mended c.in_default-refusal.is))
-    (mended-plain was c.args.who end goes c.requires.caller c.ops-end.ensures.count did.keeps.bank.grows did.keeps.moved since left stripe next.0 next.1 c.all_left-left.ensures)
+    (mended-plain was c.args.who end goes c.requires.caller c.ops-end.ensures.count did.keeps.bank.grows did.keeps.moved since left stripe next.0 next.1 c.left_at_rest-left.ensures)
     did.keeps.bank.counts (behind-keeps c.args.who end roles spares (Step ResyncStripe left ∷ []) (alone-keeps c.args.who end (Step ResyncStripe left) (λ n. refl) (λ limit. refl)))
     did.keeps.bank.same (scope-same given a.backup did.keeps.bank.same c.append_after_losses-2.ensures.uuid c.append_after_losses-2.ensures.given) c.append_after_losses-2.ensures.first refl c.append_after_losses-2.ensures.items
-    (omega (arith, c.append_after_losses-2.ensures.room, was.room_left, some)))
+    (omega (arith, c.append_after_losses-2.ensures.room, was.room_left, some))))
 
 pub returns-clause-stepped : goal.returns-clause-stepped
 returns-clause-stepped g c =
-    let was = c.still.invariant in
+    let was = (c.still.invariant.rests (ap (λ p. is_reshaping p.parts.members.newest) c.still.view_is ∙ c.requires.still)).1 in
     let here = was.kept.members_are in
     let a = c.still.inside in
     let given = g.B.Bank.given a.bank in
@@ -232,7 +234,7 @@ returns-clause-stepped g c =
     let roles = c.newly_unassigned-roles.result in
     let spares = c.resync_rows-mended.result.spares in
     let end = c.ops-end.result in
-    let event = Step ResyncStripe c.all_left-left.result in
+    let event = Step ResyncStripe c.left_at_rest-left.result in
     let since : AreLostSince a.members m roles spares before after = lost-since given a.members m c.shape_in-shape.result.disks c.unassigned_roles-before.result roles spares before after here.placed did.keeps.moved did.keeps.failed
     (ap (λ (s : Shape). s.disks) c.shape_in-shape.ensures ∙ sym (count-still a.members.newest here.still)) c.unassigned_roles-before.ensures c.newly_unassigned-roles.ensures in
     rw (← c.still.view_is) (stepped did.keeps.bank.grows (shapes-moved did.keeps.moved)
@@ -245,7 +247,7 @@ returns-clause-stepped g c =
 
 pub returns-clause-left : goal.returns-clause-left
 returns-clause-left g c =
-    let was = c.still.invariant in
+    let was = (c.still.invariant.rests (ap (λ p. is_reshaping p.parts.members.newest) c.still.view_is ∙ c.requires.still)).1 in
     let here = was.kept.members_are in
     let a = c.still.inside in
     let pending : HasStripeLeft a.work.resync a.members = subst (λ p. HasStripeLeft p.parts.work.resync p.parts.members) (sym c.still.view_is) c.requires.pending in
@@ -260,7 +262,7 @@ returns-clause-left g c =
     let since : AreLostSince a.members m roles spares before after = lost-since (g.B.Bank.given a.bank) a.members m c.shape_in-shape.result.disks c.unassigned_roles-before.result roles spares before after here.placed did.keeps.moved did.keeps.failed
     (ap (λ (s : Shape). s.disks) c.shape_in-shape.ensures ∙ sym (count-still a.members.newest here.still)) c.unassigned_roles-before.ensures c.newly_unassigned-roles.ensures in
     rw (← c.still.view_is) (fewer-more (planned-same a.ahead (shapes-moved did.keeps.moved))
-    (steps-fewer (record a.work { resync = Some (stripe + 1) }) (left_of a.work a.members) c.args.who c.ops-end.result (Step ResyncStripe c.all_left-left.result ∷ []) did.keeps.moved since
+    (steps-fewer (record a.work { resync = Some (stripe + 1) }) (left_of a.work a.members) c.args.who c.ops-end.result (Step ResyncStripe c.left_at_rest-left.result ∷ []) did.keeps.moved since
     (left-mended a.work a.members stripe next.0 next.1) c.append_after_losses-2.ensures.items))
 
 pub returns-clause-caused : goal.returns-clause-caused
@@ -272,10 +274,12 @@ returns-clause-first g c = rw (← c.still.view_is) (sym c.in_default.ensures.fi
 -- ---- the call goes on
 
 pub returns-in-Some-refusal-clause-open : goal.returns-in-Some-refusal-clause-open
-returns-in-Some-refusal-clause-open g c = step-going c.args.who c.ops-end.result c.newly_unassigned-roles.result c.resync_rows-mended.result.spares (Refused c.in-Some-refusal.refusal) c.requires.open tt (ap (λ p. p.parts.entries) c.still.view_is) c.append_after_losses.ensures.items
+returns-in-Some-refusal-clause-open g c =
+    step-going c.args.who c.ops-end.result c.newly_unassigned-roles.result c.resync_rows-mended.result.spares (Refused c.in-Some-refusal.refusal) c.requires.open tt (ap (λ p. p.parts.entries) c.still.view_is) c.append_after_losses.ensures.items
 
 pub returns-clause-open : goal.returns-clause-open
-returns-clause-open g c = step-going c.args.who c.ops-end.result c.newly_unassigned-roles.result c.resync_rows-mended.result.spares (Step ResyncStripe c.all_left-left.result) c.requires.open tt (ap (λ p. p.parts.entries) c.still.view_is) c.append_after_losses-2.ensures.items
+returns-clause-open g c =
+    step-going c.args.who c.ops-end.result c.newly_unassigned-roles.result c.resync_rows-mended.result.spares (Step ResyncStripe c.left_at_rest-left.result) c.requires.open tt (ap (λ p. p.parts.entries) c.still.view_is) c.append_after_losses-2.ensures.items
 
 -- ---- what is handed down, and what is left of it
 
@@ -286,22 +290,25 @@ pub returns-in-Some-clause-stays : goal.returns-in-Some-clause-stays
 returns-in-Some-clause-stays g c = c.refuse_step.ensures.stays
 
 pub shape_in-shape-requires : goal.shape_in-shape-requires
-shape_in-shape-requires g c = valid (g.B.Bank.given c.still.inside.bank) c.still.inside.members c.still.invariant.kept.members_are.placed
+shape_in-shape-requires g c = valid (g.B.Bank.given c.still.inside.bank) c.still.inside.members (alike c.still.invariant).kept.members_are.placed
 
 pub unassigned_roles-before-requires-clause-known : goal.unassigned_roles-before-requires-clause-known
-unassigned_roles-before-requires-clause-known g c = shape-known (g.B.Bank.given c.still.inside.bank) c.still.inside.members c.still.invariant.kept.members_are.placed c.shape_in-shape.result c.shape_in-shape.ensures
+unassigned_roles-before-requires-clause-known g c =
+    shape-known (g.B.Bank.given c.still.inside.bank) c.still.inside.members (alike c.still.invariant).kept.members_are.placed c.shape_in-shape.result c.shape_in-shape.ensures
 
 pub unassigned_roles-before-requires-clause-few : goal.unassigned_roles-before-requires-clause-few
-unassigned_roles-before-requires-clause-few g c = shape-few (g.B.Bank.given c.still.inside.bank) c.still.inside.members c.still.invariant.kept.members_are.placed c.shape_in-shape.result c.shape_in-shape.ensures
+unassigned_roles-before-requires-clause-few g c =
+    shape-few (g.B.Bank.given c.still.inside.bank) c.still.inside.members (alike c.still.invariant).kept.members_are.placed c.shape_in-shape.result c.shape_in-shape.ensures
 
 pub resync_rows-mended-requires-clause-stands : goal.resync_rows-mended-requires-clause-stands
-resync_rows-mended-requires-clause-stands g c = record { slots = c.still.invariant.kept.slots; placed = c.still.invariant.kept.members_are.placed; unlost = c.still.invariant.kept.members_are.unlost; free = c.still.invariant.kept.members_are.free }
+resync_rows-mended-requires-clause-stands g c =
+    record { slots = (alike c.still.invariant).kept.slots; placed = (alike c.still.invariant).kept.members_are.placed; unlost = (alike c.still.invariant).kept.members_are.unlost; free = (alike c.still.invariant).kept.members_are.free }
 
 pub resync_rows-mended-requires-clause-rows : goal.resync_rows-mended-requires-clause-rows
-resync_rows-mended-requires-clause-rows g c = c.still.invariant.rows_fit
+resync_rows-mended-requires-clause-rows g c = (alike c.still.invariant).rows_fit
 
 pub resync_rows-mended-requires-clause-buffer : goal.resync_rows-mended-requires-clause-buffer
-resync_rows-mended-requires-clause-buffer g c = c.still.invariant.buffer_fits
+resync_rows-mended-requires-clause-buffer g c = (alike c.still.invariant).buffer_fits
 
 pub newly_unassigned-roles-requires-clause-known : goal.newly_unassigned-roles-requires-clause-known
 newly_unassigned-roles-requires-clause-known g c =
@@ -309,10 +316,12 @@ newly_unassigned-roles-requires-clause-known g c =
     shape-known (g.B.Bank.given c.still.inside.bank) c.resync_rows-mended.new.members moved.placed c.shape_in-shape.result (c.shape_in-shape.ensures ∙ sym moved.shape)
 
 pub newly_unassigned-roles-requires-clause-few : goal.newly_unassigned-roles-requires-clause-few
-newly_unassigned-roles-requires-clause-few g c = shape-few (g.B.Bank.given c.still.inside.bank) c.still.inside.members c.still.invariant.kept.members_are.placed c.shape_in-shape.result c.shape_in-shape.ensures
+newly_unassigned-roles-requires-clause-few g c =
+    shape-few (g.B.Bank.given c.still.inside.bank) c.still.inside.members (alike c.still.invariant).kept.members_are.placed c.shape_in-shape.result c.shape_in-shape.ensures
 
 pub append_after_losses-requires-clause-room : goal.append_after_losses-requires-clause-room
-append_after_losses-requires-clause-room g c = room-of-step c.still.inside.steps c.still.inside.epoch.entries.room c.still.invariant.room_left (subst (λ p. 1 ≤ p.parts.steps) (sym c.still.view_is) c.requires.room)
+append_after_losses-requires-clause-room g c =
+    room-of-step c.still.inside.steps c.still.inside.epoch.entries.room (alike c.still.invariant).room_left (subst (λ p. 1 ≤ p.parts.steps) (sym c.still.view_is) c.requires.room)
 
 pub append_after_losses-requires-clause-number : goal.append_after_losses-requires-clause-number
 append_after_losses-requires-clause-number g c = c.check_going.ensures
@@ -338,30 +347,34 @@ pub overflow_add-still : goal.overflow_add-still
 overflow_add-still g c =
     let a = c.still.inside in
     let left : HasStripeLeft a.work.resync a.members = subst (λ p. HasStripeLeft p.parts.work.resync p.parts.members) (sym c.still.view_is) c.requires.pending in
-    stripe-fits (g.B.Bank.given a.bank) a.members c.still.invariant.kept.members_are.placed c.unwrap_or-stripe.result (next-stripe a.work.resync a.members c.unwrap_or-stripe.result left c.unwrap_or-stripe.ensures).1
+    stripe-fits (g.B.Bank.given a.bank) a.members (alike c.still.invariant).kept.members_are.placed c.unwrap_or-stripe.result (next-stripe a.work.resync a.members c.unwrap_or-stripe.result left c.unwrap_or-stripe.ensures).1
 
-pub all_left-left-requires-clause-shape : goal.all_left-left-requires-clause-shape
-all_left-left-requires-clause-shape g c = valid (g.B.Bank.given c.still.inside.bank) c.resync_rows-mended.new.members c.resync_rows-mended.ensures.keeps.moved.placed
+pub left_at_rest-left-requires-clause-shape : goal.left_at_rest-left-requires-clause-shape
+left_at_rest-left-requires-clause-shape g c =
+    valid (g.B.Bank.given c.still.inside.bank) c.resync_rows-mended.new.members c.resync_rows-mended.ensures.keeps.moved.placed
 
-pub all_left-left-requires-clause-size : goal.all_left-left-requires-clause-size
-all_left-left-requires-clause-size g c = short (g.B.Bank.given c.still.inside.bank) c.resync_rows-mended.new.members c.resync_rows-mended.ensures.keeps.moved.placed
+pub left_at_rest-left-requires-clause-size : goal.left_at_rest-left-requires-clause-size
+left_at_rest-left-requires-clause-size g c =
+    short (g.B.Bank.given c.still.inside.bank) c.resync_rows-mended.new.members c.resync_rows-mended.ensures.keeps.moved.placed
 
-pub all_left-left-requires-clause-roles : goal.all_left-left-requires-clause-roles
-all_left-left-requires-clause-roles g c =
+pub left_at_rest-left-requires-clause-roles : goal.left_at_rest-left-requires-clause-roles
+left_at_rest-left-requires-clause-roles g c =
     let m = c.resync_rows-mended.new.members in
     shape-known (g.B.Bank.given c.still.inside.bank) m c.resync_rows-mended.ensures.keeps.moved.placed (shape_of m.newest) refl
 
-pub all_left-left-requires-clause-progress : goal.all_left-left-requires-clause-progress
-all_left-left-requires-clause-progress g c =
+pub left_at_rest-left-requires-clause-progress : goal.left_at_rest-left-requires-clause-progress
+left_at_rest-left-requires-clause-progress g c =
     let a = c.still.inside in
     let left : HasStripeLeft a.work.resync a.members = subst (λ p. HasStripeLeft p.parts.work.resync p.parts.members) (sym c.still.view_is) c.requires.pending in
     stripe-more c.unwrap_or-stripe.result c.resync_rows-mended.ensures.keeps.moved (next-stripe a.work.resync a.members c.unwrap_or-stripe.result left c.unwrap_or-stripe.ensures).1
 
-pub all_left-left-requires-clause-sound : goal.all_left-left-requires-clause-sound
-all_left-left-requires-clause-sound g c = sound-behind c.still.inside.ahead c.resync_rows-mended.ensures.keeps.moved c.still.invariant.planned
+pub left_at_rest-left-requires-clause-sound : goal.left_at_rest-left-requires-clause-sound
+left_at_rest-left-requires-clause-sound g c =
+    sound-behind c.still.inside.ahead c.resync_rows-mended.ensures.keeps.moved (c.still.invariant.rests (ap (λ p. is_reshaping p.parts.members.newest) c.still.view_is ∙ c.requires.still)).1.planned
 
 pub append_after_losses-requires-2-clause-room : goal.append_after_losses-requires-2-clause-room
-append_after_losses-requires-2-clause-room g c = room-of-step c.still.inside.steps c.still.inside.epoch.entries.room c.still.invariant.room_left (subst (λ p. 1 ≤ p.parts.steps) (sym c.still.view_is) c.requires.room)
+append_after_losses-requires-2-clause-room g c =
+    room-of-step c.still.inside.steps c.still.inside.epoch.entries.room (alike c.still.invariant).room_left (subst (λ p. 1 ≤ p.parts.steps) (sym c.still.view_is) c.requires.room)
 
 pub append_after_losses-requires-2-clause-number : goal.append_after_losses-requires-2-clause-number
 append_after_losses-requires-2-clause-number g c = c.check_going.ensures
@@ -376,8 +389,8 @@ returns-clause-entered g c =
       roles = roles;
       spares = spares;
       end = end;
-      is = c.append_after_losses-2.ensures.items ∙ ap (λ p. p.parts.entries ++ entries_of who end (losses_of roles spares ++ Step ResyncStripe c.all_left-left.result ∷ [])) c.still.view_is
-          ∙ ap (λ (n : ℕ). c.args.still.now.parts.entries ++ entries_of who end (losses_of roles spares ++ Step ResyncStripe n ∷ [])) c.all_left-left.ensures;
+      is = c.append_after_losses-2.ensures.items ∙ ap (λ p. p.parts.entries ++ entries_of who end (losses_of roles spares ++ Step ResyncStripe c.left_at_rest-left.result ∷ [])) c.still.view_is
+          ∙ ap (λ (n : ℕ). c.args.still.now.parts.entries ++ entries_of who end (losses_of roles spares ++ Step ResyncStripe n ∷ [])) c.left_at_rest-left.ensures;
     }
 
 pub returns-clause-work : goal.returns-clause-work
@@ -389,7 +402,8 @@ returns-clause-work g c =
     ap (λ (o : Option ℕ). record a.work { resync = one_more o }) (sym next.0) ∙ ap (λ p. record p.parts.work { resync = one_more p.parts.work.resync }) c.still.view_is
 
 pub returns-clause-closable : goal.returns-clause-closable
-returns-clause-closable g c = λ none.
+returns-clause-closable g c =
+    λ none.
     let stripe = c.unwrap_or-stripe.result in
     absurd (pending-left (record c.still.inside.work { resync = Some (stripe + 1) }) c.resync_rows-mended.new.members c.still.inside.ahead (stripe + 1) refl none)
 
@@ -405,13 +419,26 @@ returns-clause-given g c = c.resync_rows-mended.ensures.keeps.bank.same ∙ ap (
 -- ---- what it leaves of the members
 
 pub returns-in-Some-refusal-clause-held : goal.returns-in-Some-refusal-clause-held
-returns-in-Some-refusal-clause-held g c = subst (λ p. AreStillHeld p.parts.members c.resync_rows-mended.new.members) c.still.view_is c.resync_rows-mended.ensures.keeps.moved.held
+returns-in-Some-refusal-clause-held g c =
+    subst (λ p. AreStillHeld p.parts.members c.resync_rows-mended.new.members) c.still.view_is c.resync_rows-mended.ensures.keeps.moved.held
 
 pub returns-in-Some-refusal-clause-spares : goal.returns-in-Some-refusal-clause-spares
-returns-in-Some-refusal-clause-spares g c = subst (λ p. AreSparesFewer p.parts.members c.resync_rows-mended.new.members) c.still.view_is c.resync_rows-mended.ensures.keeps.moved.fewer
+returns-in-Some-refusal-clause-spares g c =
+    subst (λ p. AreSparesFewer p.parts.members c.resync_rows-mended.new.members) c.still.view_is c.resync_rows-mended.ensures.keeps.moved.fewer
 
 pub returns-clause-held : goal.returns-clause-held
-returns-clause-held g c = subst (λ p. AreStillHeld p.parts.members c.resync_rows-mended.new.members) c.still.view_is c.resync_rows-mended.ensures.keeps.moved.held
+returns-clause-held g c =
+    subst (λ p. AreStillHeld p.parts.members c.resync_rows-mended.new.members) c.still.view_is c.resync_rows-mended.ensures.keeps.moved.held
 
 pub returns-clause-spares : goal.returns-clause-spares
-returns-clause-spares g c = subst (λ p. AreSparesFewer p.parts.members c.resync_rows-mended.new.members) c.still.view_is c.resync_rows-mended.ensures.keeps.moved.fewer
+returns-clause-spares g c =
+    subst (λ p. AreSparesFewer p.parts.members c.resync_rows-mended.new.members) c.still.view_is c.resync_rows-mended.ensures.keeps.moved.fewer
+
+pub returns-in-Some-clause-still : goal.returns-in-Some-clause-still
+returns-in-Some-clause-still g c = c.refuse_step.ensures.still
+
+pub returns-in-Some-refusal-clause-still : goal.returns-in-Some-refusal-clause-still
+returns-in-Some-refusal-clause-still g c = c.resync_rows-mended.ensures.keeps.moved.reshape.reshaping ∙ (ap (λ p. is_reshaping p.parts.members.newest) c.still.view_is ∙ c.requires.still)
+
+pub returns-clause-still : goal.returns-clause-still
+returns-clause-still g c = c.resync_rows-mended.ensures.keeps.moved.reshape.reshaping ∙ (ap (λ p. is_reshaping p.parts.members.newest) c.still.view_is ∙ c.requires.still)

@@ -1,22 +1,22 @@
 use Rattle.std.proofs.Common.{◌≡◌, inl, inr, ℕ, ◌<◌, ◌||◌, Bool, true, false, not, Some, None, Option, is_some, refl, sym, ◌∙◌, ap, subst, arith, ⊎_elim, ◌≤◌}
-use Rattle.array_fixed.specs.bank_Given.{Given}
-use Rattle.array_fixed.specs.raid_types_the_Refusal.{Refusal}
-use Rattle.array_fixed.specs.raid_types_the_Shape.{Shape}
-use Rattle.array_fixed.specs.raid_types_the_Role.{Role}
-use Rattle.array_fixed.specs.raid_types_the_Role_TheVariants.{Recovering}
-use Rattle.array_fixed.specs.sb_specs_the_Members.{Members}
-use Rattle.array_fixed.specs.sb_specs_Reading.{holder, role_state, shape_of}
-use Rattle.array_fixed.specs.stripe_row_Rows.{reading_of, present}
-use Rattle.array_fixed.specs.history_Sound.{OpensFit}
-use Rattle.array_fixed.specs.crash_safety_laws_Marking.{AreOthersPresent}
-use Rattle.array_fixed.proofs.crash_safety_laws_Risen.{risen-then, room-first, room-then}
-use Rattle.array_fixed.specs.array_members_Placed.{IsPlaced, is_unassigned}
-use Rattle.array_fixed.specs.array_members_Rebuilding.{AreSparesFree}
-use Rattle.array_fixed.proofs.array_members_LackingLaws.{since-then, in-either}
-use Rattle.array_fixed.proofs.array_members_MovedLaws.{grows-then, moved-then, moved-from}
-use Rattle.array_fixed.proofs.array_members_SafeStretch.{gone-before, safe-then, grows-longer, over-at, keeps-from}
+use Rattle.array_type.specs.bank_Given.{Given}
+use Rattle.array_type.specs.raid_types_the_Refusal.{Refusal}
+use Rattle.array_type.specs.raid_types_the_Shape.{Shape}
+use Rattle.array_type.specs.raid_types_the_Role.{Role}
+use Rattle.array_type.specs.raid_types_the_Role_TheVariants.{Recovering}
+use Rattle.array_type.specs.sb_specs_the_Members.{Members}
+use Rattle.array_type.specs.sb_specs_Reading.{holder, role_state, shape_of}
+use Rattle.array_type.specs.stripe_row_Rows.{reading_of, present}
+use Rattle.array_type.specs.history_Sound.{OpensFit}
+use Rattle.array_type.specs.crash_safety_laws_Marking.{AreOthersPresent}
+use Rattle.array_type.proofs.crash_safety_laws_Risen.{risen-then, room-first, room-then}
+use Rattle.array_type.specs.array_members_Placed.{IsPlaced, is_unassigned}
+use Rattle.array_type.specs.array_members_Rebuilding.{AreSparesFree}
+use Rattle.array_type.proofs.array_members_LackingLaws.{since-then, in-either}
+use Rattle.array_type.proofs.array_members_MovedLaws.{grows-then, moved-then, moved-from}
+use Rattle.array_type.proofs.array_members_SafeStretch.{gone-before, safe-then, grows-longer, over-at, keeps-from}
 use Rattle.std.proofs.Math.Nat.{le_trans}
-use Rattle.array_fixed.proofs.array_call_specs_DegradedLaws.{within-count}
+use Rattle.array_type.proofs.array_call_specs_DegradedLaws.{within-count}
 use Rattle.array_fixed_sync.proofs.naming.fill_and_name.Goals as goal
 
 -- of two tests that fail the second fails
@@ -54,7 +54,8 @@ is_unassigned-requires g c =
 -- ---- the slot is there, or it isn't filled
 
 pub returns-then-is_some-is_unassigned-clause-missing : goal.returns-then-is_some-is_unassigned-clause-missing
-returns-then-is_some-is_unassigned-clause-missing g c = λ none vacant live.
+returns-then-is_some-is_unassigned-clause-missing g c =
+    λ none vacant live.
     absurd (neither c.is_some.result c.is_unassigned.result c.if-is_some-is_unassigned.true (c.is_some.ensures ∙ ap (λ (o : Option Refusal). is_some o) none) (c.is_unassigned.ensures ∙ vacant))
 
 pub returns-then-is_some-is_unassigned-clause-counts : goal.returns-then-is_some-is_unassigned-clause-counts
@@ -94,12 +95,14 @@ returns-clause-grows g c = grows-then c.fill-filled.ensures.keeps.bank.grows c.r
 -- it recovers on no slot then
 
 pub returns-clause-filled : goal.returns-clause-filled
-returns-clause-filled g c = λ none recovers.
+returns-clause-filled g c =
+    λ none recovers.
     let vacant = sym c.is_unassigned.ensures ∙ second c.is_some.result c.is_unassigned.result c.if-is_some-is_unassigned.false in
     absurd (vacant-not c.fill-filled.new.members c.args.role c.args.slot vacant (sym (c.record_missing-others.ensures.keeps.moved.states c.args.role c.args.slot (ap holder recovers)) ∙ recovers))
 
 pub returns-clause-others : goal.returns-clause-others
-returns-clause-others g c = λ told s k other.
+returns-clause-others g c =
+    λ told s k other.
     let given = g.B.Bank.given c.args.bank.now in
     let did = c.fill-filled.ensures in
     let tape1 = g.B.Bank.tape c.fill-filled.new.bank in
@@ -111,7 +114,8 @@ pub returns-clause-rise : goal.returns-clause-rise
 returns-clause-rise g c = risen-then c.fill-filled.ensures.keeps.rise c.record_missing-others.ensures.keeps.rise
 
 pub returns-clause-safe : goal.returns-clause-safe
-returns-clause-safe g c = λ tell world told room gone unclean now.
+returns-clause-safe g c =
+    λ tell world told room gone unclean now.
     let m = c.args.members.now in
     let m1 = c.fill-filled.new.members in
     let m2 = c.record_missing-others.new.members in

@@ -1,15 +1,15 @@
 use Rattle.std.proofs.Common.{Some, refl, sym, ◌∙◌, subst, ◌≤◌}
-use Rattle.array_fixed.specs.bank_Given.{Given}
-use Rattle.array_fixed.specs.history_Sound.{OpensFit}
-use Rattle.array_fixed.specs.stripe_row_Rows.{present}
-use Rattle.array_fixed.specs.crash_safety_laws_Marking.{AreOthersPresent}
-use Rattle.array_fixed.proofs.crash_safety_laws_Risen.{risen-then, room-first, room-then}
-use Rattle.array_fixed.specs.array_members_Placed.{IsPlaced}
-use Rattle.array_fixed.specs.array_members_Rebuilding.{AreSparesFree, with_recovering}
-use Rattle.array_fixed.proofs.array_members_LackingLaws.{since-then, in-either}
-use Rattle.array_fixed.proofs.array_members_MovedLaws.{grows-then, moved-then, moved-from}
-use Rattle.array_fixed.proofs.array_members_SafeStretch.{gone-before, safe-then, grows-longer, over-at, keeps-from}
-use Rattle.array_fixed.proofs.array_call_laws_RebuildGiven.{receiver-spare, free-then}
+use Rattle.array_type.specs.bank_Given.{Given}
+use Rattle.array_type.specs.history_Sound.{OpensFit}
+use Rattle.array_type.specs.stripe_row_Rows.{present}
+use Rattle.array_type.specs.crash_safety_laws_Marking.{AreOthersPresent}
+use Rattle.array_type.proofs.crash_safety_laws_Risen.{risen-then, room-first, room-then}
+use Rattle.array_type.specs.array_members_Placed.{IsPlaced}
+use Rattle.array_type.specs.array_members_Rebuilding.{AreSparesFree, with_recovering}
+use Rattle.array_type.proofs.array_members_LackingLaws.{since-then, in-either}
+use Rattle.array_type.proofs.array_members_MovedLaws.{grows-then, moved-then, moved-from}
+use Rattle.array_type.proofs.array_members_SafeStretch.{gone-before, safe-then, grows-longer, over-at, keeps-from}
+use Rattle.array_type.proofs.array_call_laws_RebuildGiven.{receiver-spare, free-then}
 use Rattle.std.proofs.Math.Nat.{le_trans}
 use Rattle.array_fixed_sync.proofs.naming.give_and_name.Goals as goal
 
@@ -46,7 +46,8 @@ pub returns-clause-grows : goal.returns-clause-grows
 returns-clause-grows g c = grows-then c.give_role-spares.ensures.bank.grows c.record_missing-others.ensures.keeps.bank.grows
 
 pub returns-clause-others : goal.returns-clause-others
-returns-clause-others g c = λ told s k other.
+returns-clause-others g c =
+    λ told s k other.
     let given = g.B.Bank.given c.args.bank.now in
     let did = c.give_role-spares.ensures in
     let tape1 = g.B.Bank.tape c.give_role-spares.new.bank in
@@ -57,7 +58,8 @@ pub returns-clause-rise : goal.returns-clause-rise
 returns-clause-rise g c = risen-then c.give_role-spares.ensures.rise c.record_missing-others.ensures.keeps.rise
 
 pub returns-clause-safe : goal.returns-clause-safe
-returns-clause-safe g c = λ tell world told room gone here unclean now.
+returns-clause-safe g c =
+    λ tell world told room gone here unclean now.
     let m = c.args.members.now in
     let m1 = c.give_role-spares.new.members in
     let m2 = c.record_missing-others.new.members in

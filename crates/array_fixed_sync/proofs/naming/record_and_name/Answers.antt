@@ -1,25 +1,25 @@
 use Rattle.std.proofs.Common.{None, ◌≡◌, ℕ, ◌==◌, ◌&&◌, Bool, true, false, not, refl, sym, ◌∙◌, ap, subst, arith, ◌≤◌}
 use Rattle.std.proofs.lemmas.Bool.Decides.{nat_tests}
-use Rattle.array_fixed.specs.raid_types_the_Role.{Role}
-use Rattle.array_fixed.specs.raid_types_the_Role_TheVariants.{Whole}
-use Rattle.array_fixed.specs.bank_Given.{Given}
-use Rattle.array_fixed.specs.history_Sound.{OpensFit}
-use Rattle.array_fixed.specs.history_World.{World}
-use Rattle.array_fixed.specs.sb_specs_the_Members.{Members}
-use Rattle.array_fixed.specs.sb_specs_Reading.{is_whole, holder, role_state}
-use Rattle.array_fixed.specs.stripe_row_Rows.{reading_of, present, is_missing}
-use Rattle.array_fixed.specs.crash_safety_laws_Marking.{AreOthersPresent}
-use Rattle.array_fixed.specs.crash_safety_laws_Safety.{HasRoomLeft}
-use Rattle.array_fixed.specs.crash_safety_laws_Steady.{IsSafeOver, KeepsSafe, AreGoneTold, IsUncleanTold, given_back}
-use Rattle.array_fixed.specs.crash_views_Views.{Ledger}
-use Rattle.array_fixed.specs.array_members_Moving.{IsMoved}
-use Rattle.array_fixed.proofs.crash_safety_laws_Risen.{risen-then, room-first, room-then}
-use Rattle.array_fixed.specs.array_members_Placed.{IsPlaced}
-use Rattle.array_fixed.specs.array_members_Rebuilding.{AreSparesFree, with_whole}
-use Rattle.array_fixed.proofs.array_members_LackingLaws.{since-then, in-either}
-use Rattle.array_fixed.proofs.array_members_MovedLaws.{grows-then, moved-then, moved-from}
-use Rattle.array_fixed.proofs.array_members_SafeStretch.{gone-before, safe-then, grows-longer, over-at, keeps-from}
-use Rattle.array_fixed.proofs.array_call_laws_RebuildGiven.{receiver-recovering, free-then}
+use Rattle.array_type.specs.raid_types_the_Role.{Role}
+use Rattle.array_type.specs.raid_types_the_Role_TheVariants.{Whole}
+use Rattle.array_type.specs.bank_Given.{Given}
+use Rattle.array_type.specs.history_Sound.{OpensFit}
+use Rattle.array_type.specs.history_World.{World}
+use Rattle.array_type.specs.sb_specs_the_Members.{Members}
+use Rattle.array_type.specs.sb_specs_Reading.{is_whole, holder, role_state}
+use Rattle.array_type.specs.stripe_row_Rows.{reading_of, present, is_missing}
+use Rattle.array_type.specs.crash_safety_laws_Marking.{AreOthersPresent}
+use Rattle.array_type.specs.crash_safety_laws_Safety.{HasRoomLeft}
+use Rattle.array_type.specs.crash_safety_laws_Steady.{IsSafeOver, KeepsSafe, AreGoneTold, IsUncleanTold, given_back}
+use Rattle.array_type.specs.crash_views_Views.{Ledger}
+use Rattle.array_type.specs.array_members_Moving.{IsMoved}
+use Rattle.array_type.proofs.crash_safety_laws_Risen.{risen-then, room-first, room-then}
+use Rattle.array_type.specs.array_members_Placed.{IsPlaced}
+use Rattle.array_type.specs.array_members_Rebuilding.{AreSparesFree, with_whole}
+use Rattle.array_type.proofs.array_members_LackingLaws.{since-then, in-either}
+use Rattle.array_type.proofs.array_members_MovedLaws.{grows-then, moved-then, moved-from}
+use Rattle.array_type.proofs.array_members_SafeStretch.{gone-before, safe-then, grows-longer, over-at, keeps-from}
+use Rattle.array_type.proofs.array_call_laws_RebuildGiven.{receiver-recovering, free-then}
 use Rattle.array_fixed_sync.proofs.naming.record_and_name.Given.{Over}
 use Rattle.array_fixed_sync.proofs.naming.record_and_name.Goals.{After-record_missing-others}
 use Rattle.std.proofs.Math.Nat.{le_trans}
@@ -58,7 +58,8 @@ pub returns-clause-grows : goal.returns-clause-grows
 returns-clause-grows g c = grows-then c.flush_and_record-spares.ensures.bank.grows c.record_missing-others.ensures.keeps.bank.grows
 
 pub returns-clause-others : goal.returns-clause-others
-returns-clause-others g c = λ told s k other.
+returns-clause-others g c =
+    λ told s k other.
     let given = g.B.Bank.given c.args.bank.now in
     let did = c.flush_and_record-spares.ensures in
     let tape1 = g.B.Bank.tape c.flush_and_record-spares.new.bank in
@@ -96,7 +97,8 @@ module _ (g : Over) (c : After-record_missing-others g) (tell : g.B.Bank.tells) 
       (c.record_missing-others.ensures.safe tell world told (room-then tape2 tell room did.rise) gone (λ dirty. unclean (sym did.clean ∙ dirty)) (over-at world given given1 told m1 tape1 did.bank.same now))
 
 pub returns-clause-safe : goal.returns-clause-safe
-returns-clause-safe g c = λ tell world told room gone here unclean premise does list stands allowed full now.
+returns-clause-safe g c =
+    λ tell world told room gone here unclean premise does list stands allowed full now.
     let given = g.B.Bank.given c.args.bank.now in
     let tape0 = g.B.Bank.tape c.args.bank.now in
     let tape1 = g.B.Bank.tape c.flush_and_record-spares.new.bank in
@@ -122,7 +124,8 @@ other m r role miss whole = ne r role (λ same. (
 -- where the role is whole still, no ledger need tell it gone
 
 pub returns-clause-given_back : goal.returns-clause-given_back
-returns-clause-given_back g c = λ whole tell world told room gone here unclean premise does list stands allowed full now.
+returns-clause-given_back g c =
+    λ whole tell world told room gone here unclean premise does list stands allowed full now.
     let role = c.args.role in
     let m2 = c.record_missing-others.new.members in
     let was : role_state (reading_of c.flush_and_record-spares.new.members) role ≡ Whole c.args.slot = sym (c.record_missing-others.ensures.keeps.moved.states role c.args.slot (ap holder whole)) ∙ whole in
@@ -134,7 +137,8 @@ pub returns-clause-missing : goal.returns-clause-missing
 returns-clause-missing g c = c.record_missing-others.ensures.missing
 
 pub returns-clause-counts : goal.returns-clause-counts
-returns-clause-counts g c = λ slot. le_trans (c.flush_and_record-spares.ensures.bank.counts slot) (c.record_missing-others.ensures.keeps.bank.counts slot)
+returns-clause-counts g c =
+    λ slot. le_trans (c.flush_and_record-spares.ensures.bank.counts slot) (c.record_missing-others.ensures.keeps.bank.counts slot)
 
 pub flush_and_record-spares-requires-clause-stands : goal.flush_and_record-spares-requires-clause-stands
 flush_and_record-spares-requires-clause-stands g c = record { slots = c.requires.slots; placed = c.requires.placed; unlost = c.requires.unlost; free = c.requires.free }

@@ -1,11 +1,11 @@
 use Rattle.std.proofs.Common.{◌≡◌, inl, inr, ℕ, Option, Some, None, sym, ◌∙◌, ap, subst₂}
-use Rattle.array_fixed.specs.sb_specs_the_Members.{Members}
+use Rattle.array_type.specs.sb_specs_the_Members.{Members}
 use Rattle.std.specs.Prelude.{unwrap_or}
-use Rattle.array_fixed.specs.history_the_StepKind_TheVariants.{RebuildTaken, RebuildStripe, RebuildEnded}
-use Rattle.array_fixed.specs.array_specs_Parts.{still_left}
-use Rattle.array_fixed.specs.array_call_specs_Calls.{IsHeldOrGiven}
-use Rattle.array_fixed.specs.array_members_Rebuilding.{Held}
-use Rattle.array_fixed.specs.Rebuilding.{first_recovering, first_unassigned, first_spare, IsRebuildNext, IsHeldOrNext, rebuild_kind}
+use Rattle.array_type.specs.history_the_StepKind_TheVariants.{RebuildTaken, RebuildStripe, RebuildEnded}
+use Rattle.array_type.specs.array_specs_Parts.{still_left}
+use Rattle.array_type.specs.array_call_specs_Calls.{IsHeldOrGiven}
+use Rattle.array_type.specs.array_members_Rebuilding.{Held}
+use Rattle.array_type.specs.Rebuilding.{first_recovering, first_unassigned, first_spare, IsRebuildNext, IsHeldOrNext, rebuild_kind}
 use Rattle.array_fixed_sync.proofs.RebuildParts.{disks-as, roles-as, role-below, less-as, most-as, stripe-no-end, stripe-not-taken, end-not-taken, taken-no-end, work-as, work-same, whole-at}
 use Rattle.array_fixed_sync.proofs.RebuildLaws.{not-taking, given-to, found-below, found-recovered, role-recovered, kind-filled, kind-ended, kind-taken, IsTaking, takes-next, entered-as, kept-stepped, not-end, at-end}
 use Rattle.array_fixed_sync.proofs.NextLaws.{stepped-wider}
@@ -16,7 +16,8 @@ found : {a b : Members} {role : ℕ} {o : Option ℕ} → o ≡ first_recovering
 found is same some = ap first_recovering (sym same) ∙ sym is ∙ some
 
 pub rebuilt-requires : goal.rebuilt-requires
-rebuilt-requires g c = role-below c.in-Some.role c.disks-disks.result _ (found-below c.args.still.now.parts.members c.in-Some.role (found c.first_recovering.ensures c.members.ensures c.in-Some.is)) c.disks-disks.ensures.disks c.disks-disks.ensures.few
+rebuilt-requires g c =
+    role-below c.in-Some.role c.disks-disks.result _ (found-below c.args.still.now.parts.members c.in-Some.role (found c.first_recovering.ensures c.members.ensures c.in-Some.is)) c.disks-disks.ensures.disks c.disks-disks.ensures.few
 
 pub rebuild_stripe-requires-clause-pending : goal.rebuild_stripe-requires-clause-pending
 rebuild_stripe-requires-clause-pending g c =
@@ -63,7 +64,8 @@ returns-in-Some-clause-list g c =
     kept-stepped c.args.who c.args.still.now.parts.entries s.new.still.parts.entries s.new.still.parts.members c.in-Some.role RebuildEnded (still_left s.new.still.parts.work s.new.still.parts.members s.new.still.ahead) s.result s.ensures.entered
 
 pub returns-in-Some-clause-good : goal.returns-in-Some-clause-good
-returns-in-Some-clause-good g c = at-end _ (rebuild_kind c.args.still.now.parts.work c.args.still.now.parts.members) c.end_rebuild.result c.end_rebuild.ensures.good
+returns-in-Some-clause-good g c =
+    at-end _ (rebuild_kind c.args.still.now.parts.work c.args.still.now.parts.members) c.end_rebuild.result c.end_rebuild.ensures.good
 
 -- the role and the spare that were found
 taken : {a b : Members} {vacant spare recovered : Option ℕ} {role slot : ℕ} → recovered ≡ first_recovering a → a ≡ b → recovered ≡ None → IsRebuildNext b → vacant ≡ first_unassigned b → role ≡ unwrap_or vacant 0
@@ -110,7 +112,8 @@ returns-then-rebuilt-stripes-clause-stepped g c =
     (g.B.Bank.faults_of c.args.still.now.parts.bank) (g.B.Bank.faults_of s.new.still.parts.bank) c.args.still.now s.new.still (λ role slot held. inl held) s.ensures.stepped
 
 pub returns-then-rebuilt-stripes-clause-held : goal.returns-then-rebuilt-stripes-clause-held
-returns-then-rebuilt-stripes-clause-held g c = record { roles = λ role slot held. inl (c.rebuild_stripe.ensures.held role slot held); spares = c.rebuild_stripe.ensures.spares }
+returns-then-rebuilt-stripes-clause-held g c =
+    record { roles = λ role slot held. inl (c.rebuild_stripe.ensures.held role slot held); spares = c.rebuild_stripe.ensures.spares }
 
 pub returns-in-Some-clause-stepped : goal.returns-in-Some-clause-stepped
 returns-in-Some-clause-stepped g c =
@@ -189,7 +192,8 @@ returns-in-Some-clause-whole g c =
     whole-at c.args.still.now.parts.members c.end_rebuild.new.still.parts.members (rebuild_kind c.args.still.now.parts.work c.args.still.now.parts.members) c.in-Some.role c.end_rebuild.result (role-recovered c.args.still.now.parts.work c.args.still.now.parts.members c.in-Some.role (found c.first_recovering.ensures c.members.ensures c.in-Some.is)) c.end_rebuild.ensures.whole
 
 pub returns-in-Some-clause-held : goal.returns-in-Some-clause-held
-returns-in-Some-clause-held g c = record { roles = λ role slot held. inl (c.end_rebuild.ensures.held role slot held); spares = c.end_rebuild.ensures.spares }
+returns-in-Some-clause-held g c =
+    record { roles = λ role slot held. inl (c.end_rebuild.ensures.held role slot held); spares = c.end_rebuild.ensures.spares }
 
 pub returns-clause-work : goal.returns-clause-work
 returns-clause-work g c =

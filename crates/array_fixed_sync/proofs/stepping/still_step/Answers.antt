@@ -1,14 +1,14 @@
 use Rattle.std.proofs.Common.{◌≡◌, inl, ℕ, Option, Some, None, is_some, Bool, false, sym, ◌∙◌, ap, refl}
-use Rattle.array_fixed.specs.sb_specs_Reading.{is_clean, list_length}
-use Rattle.array_fixed.specs.array_members_Rebuilding.{Held}
-use Rattle.array_fixed.specs.array_specs_Parts.{still_left}
+use Rattle.array_type.specs.sb_specs_Reading.{is_clean, list_length}
+use Rattle.array_type.specs.array_members_Rebuilding.{Held}
+use Rattle.array_type.specs.array_specs_Parts.{still_left}
 use Rattle.array_fixed_sync.specs.Resyncing.{is_at_end}
-use Rattle.array_fixed_sync.specs.Resyncing as resync
-use Rattle.array_fixed.specs.Rebuilding.{IsHeldOrNext}
+use Rattle.array_type.specs.Rebuilding.{IsHeldOrNext}
 use Rattle.array_fixed_sync.specs.Stepping.{IsHeldOrDue}
 use Rattle.array_fixed_sync.proofs.ResyncLaws.{ok-so}
 use Rattle.array_fixed_sync.proofs.NextLaws.{next-rebuild, next-same, held-due, resync-end, rebuild-end, undone-caused, stepped-wider}
 use Rattle.array_fixed_sync.proofs.StepParts.{resync-entered, taken-short, resync-work, resync-caused, resync-clean, resync-untaken, resync-unended, rebuild-entered, rebuild-work, rebuild-clean, rebuild-unflushed}
+use Rattle.array_fixed_sync.specs.Resyncing as resync
 use Rattle.array_fixed_sync.proofs.stepping.still_step.Goals as goal
 
 -- no resync is pending, as was found
@@ -31,11 +31,13 @@ returns-then-is_some-clause-stepped g c =
     (g.B.Bank.faults_of a.parts.bank) (g.B.Bank.faults_of b.parts.bank) a b (λ role slot held. inl held) c.resync_step.ensures.stepped
 
 pub rebuild_step-requires-clause-unbroken : goal.rebuild_step-requires-clause-unbroken
-rebuild_step-requires-clause-unbroken g c = λ ends.
+rebuild_step-requires-clause-unbroken g c =
+    λ ends.
     c.requires.unbroken (next-same c.args.still.now.parts.work c.args.still.now.parts.members (none-pending c.resync.ensures.resync c.is_some.ensures c.if-is_some.false) ∙ ends)
 
 pub rebuild_step-requires-clause-pending : goal.rebuild_step-requires-clause-pending
-rebuild_step-requires-clause-pending g c = next-rebuild c.args.still.now.parts.work c.args.still.now.parts.members (none-pending c.resync.ensures.resync c.is_some.ensures c.if-is_some.false) c.requires.pending
+rebuild_step-requires-clause-pending g c =
+    next-rebuild c.args.still.now.parts.work c.args.still.now.parts.members (none-pending c.resync.ensures.resync c.is_some.ensures c.if-is_some.false) c.requires.pending
 
 pub returns-clause-caused : goal.returns-clause-caused
 returns-clause-caused g c =
@@ -81,13 +83,16 @@ returns-then-is_some-clause-clean g c =
     (ap is_some (sym c.resync.ensures.resync) ∙ sym c.is_some.ensures ∙ c.if-is_some.true) c.resync_step.ensures.clean
 
 pub returns-then-is_some-clause-taken : goal.returns-then-is_some-clause-taken
-returns-then-is_some-clause-taken g c = resync-untaken _ c.args.still.now.parts.work c.args.still.now.parts.members c.resync_step.result (ap is_some (sym c.resync.ensures.resync) ∙ sym c.is_some.ensures ∙ c.if-is_some.true)
+returns-then-is_some-clause-taken g c =
+    resync-untaken _ c.args.still.now.parts.work c.args.still.now.parts.members c.resync_step.result (ap is_some (sym c.resync.ensures.resync) ∙ sym c.is_some.ensures ∙ c.if-is_some.true)
 
 pub returns-then-is_some-clause-whole : goal.returns-then-is_some-clause-whole
-returns-then-is_some-clause-whole g c = resync-unended _ c.args.still.now.parts.work c.args.still.now.parts.members c.resync_step.result (ap is_some (sym c.resync.ensures.resync) ∙ sym c.is_some.ensures ∙ c.if-is_some.true)
+returns-then-is_some-clause-whole g c =
+    resync-unended _ c.args.still.now.parts.work c.args.still.now.parts.members c.resync_step.result (ap is_some (sym c.resync.ensures.resync) ∙ sym c.is_some.ensures ∙ c.if-is_some.true)
 
 pub returns-then-is_some-clause-held : goal.returns-then-is_some-clause-held
-returns-then-is_some-clause-held g c = record { roles = λ role slot held. inl (c.resync_step.ensures.held role slot held); spares = c.resync_step.ensures.spares }
+returns-then-is_some-clause-held g c =
+    record { roles = λ role slot held. inl (c.resync_step.ensures.held role slot held); spares = c.resync_step.ensures.spares }
 
 -- ---- a rebuild's step
 
@@ -109,7 +114,8 @@ returns-clause-clean g c =
     (none-pending c.resync.ensures.resync c.is_some.ensures c.if-is_some.false) c.rebuild_step.ensures.clean
 
 pub returns-clause-flushed : goal.returns-clause-flushed
-returns-clause-flushed g c = rebuild-unflushed _ c.args.still.now.parts.work.resync c.args.still.now.parts.members c.rebuild_step.result (none-pending c.resync.ensures.resync c.is_some.ensures c.if-is_some.false)
+returns-clause-flushed g c =
+    rebuild-unflushed _ c.args.still.now.parts.work.resync c.args.still.now.parts.members c.rebuild_step.result (none-pending c.resync.ensures.resync c.is_some.ensures c.if-is_some.false)
 
 pub returns-clause-taken : goal.returns-clause-taken
 returns-clause-taken g c =
@@ -118,3 +124,9 @@ returns-clause-taken g c =
 pub returns-clause-whole : goal.returns-clause-whole
 returns-clause-whole g c =
     ok-so c.rebuild_step.result (λ whole kind. whole (sym (next-same c.args.still.now.parts.work c.args.still.now.parts.members (none-pending c.resync.ensures.resync c.is_some.ensures c.if-is_some.false)) ∙ kind)) c.rebuild_step.ensures.whole
+
+pub returns-then-is_some-clause-still : goal.returns-then-is_some-clause-still
+returns-then-is_some-clause-still g c = c.resync_step.ensures.still
+
+pub returns-clause-still : goal.returns-clause-still
+returns-clause-still g c = c.rebuild_step.ensures.still

@@ -8,25 +8,26 @@ use Rattle.array_grow.proofs.backing.can_back.Goals as goal
 
 pub is_aside-can-requires : goal.is_aside-can-requires
 is_aside-can-requires g c =
-    let placed = c.take_apart-pieces.ensures.ready.kept.members_are.placed in
-    record { few = subst (λ (n : ℕ). n ≤ 16) (sym placed.roles) (few-roles c.take_apart-pieces.result.members.newest placed.fit.valid) }
+    let placed = c.part_fixed-pieces.ensures.ready.kept.members_are.placed in
+    record { few = subst (λ (n : ℕ). n ≤ 16) (sym placed.roles) (few-roles c.part_fixed-pieces.result.members.newest placed.fit.valid) }
 
-pub of_pieces-requires : goal.of_pieces-requires
-of_pieces-requires g c = record { ready = c.take_apart-pieces.ensures.ready }
+pub of_fixed-requires : goal.of_fixed-requires
+of_fixed-requires g c = record { ready = c.part_fixed-pieces.ensures.ready }
 
 pub returns-clause-same : goal.returns-clause-same
-returns-clause-same g c = c.of_pieces.ensures.same ∙ sym c.take_apart-pieces.ensures.same
+returns-clause-same g c = c.of_fixed.ensures.same ∙ sym c.part_fixed-pieces.ensures.same
 
 pub returns-clause-yes : goal.returns-clause-yes
 returns-clause-yes g c on =
-    let p = c.take_apart-pieces.result in
-    backs-as c.args.still _ c.take_apart-pieces.ensures.same (elim c.match-pieces.branch [
+    let p = c.part_fixed-pieces.result in
+    backs-as c.args.still _ c.part_fixed-pieces.ensures.same (elim c.match-pieces.branch [
       | in-None w ↦ subst (λ (o : Option ℕ). IfSome o (λ slot. IsAside p.epoch.given p.members slot)) (sym w.in-None.is) tt
       | in-Some w ↦ subst (λ (o : Option ℕ). IfSome o (λ slot. IsAside p.epoch.given p.members slot)) (sym w.in-Some.is) (w.is_aside-can.ensures.yes (sym w.can-is ∙ on))
     ])
 
 pub returns-clause-no : goal.returns-clause-no
-returns-clause-no g c off = none-backs-as c.args.still _ c.take_apart-pieces.ensures.same (elim c.match-pieces.branch [
+returns-clause-no g c off =
+    none-backs-as c.args.still _ c.part_fixed-pieces.ensures.same (elim c.match-pieces.branch [
   | in-None w ↦ absurd (never-both c.match-pieces.can w.can-is off)
   | in-Some w ↦ (w.in-Some.slot, w.in-Some.is, w.is_aside-can.ensures.no (sym w.can-is ∙ off))
 ])

@@ -11,8 +11,8 @@ use Rattle.array_grow.proofs.judging.judge.Goals as goal
 
 pub returns-clause-first : goal.returns-clause-first
 returns-clause-first g c =
-    let p = c.take_apart-pieces.result in
-    let same = c.take_apart-pieces.ensures.same in
+    let p = c.part_fixed-pieces.result in
+    let same = c.part_fixed-pieces.ensures.same in
     let seen : c.visible-visible.result ≡ visible_size p.members p.limit = c.visible-visible.ensures.visible ∙ ap (λ s. visible_in s) same in
     first-as g.B.Bank.given c.args.wish.now c.unplanned-refusal.result c.args.still _ same
     (subst (λ (n : ℕ). c.unplanned-refusal.result ≡ grow_refusal (asked_of p.members p.work.resync (length (phases_of p.ahead)) n (option_map (sizes (g.B.Bank.given p.bank)).sectors p.backup)) c.args.wish.now) seen
@@ -20,6 +20,6 @@ returns-clause-first g c =
 
 pub returns-clause-visible : goal.returns-clause-visible
 returns-clause-visible g c =
-    let was = c.take_apart-pieces.ensures.ready in
-    let p = c.take_apart-pieces.result in
-    visible-as c.args.still _ c.take_apart-pieces.ensures.same (visible-is (list_length p.members.newest) (list_length p.members.newest) p.limit p.epoch.entries.items was.sized was.limited)
+    let was = c.part_fixed-pieces.ensures.ready in
+    let p = c.part_fixed-pieces.result in
+    visible-as c.args.still _ c.part_fixed-pieces.ensures.same (visible-is (list_length p.members.newest) (list_length p.members.newest) p.limit p.epoch.entries.items was.sized was.limited)

@@ -31,15 +31,15 @@ use Rattle.array_grow.proofs.planning.enter_plan.Goals as goal
 
 pub plan_of-plan-requires-clause-taken : goal.plan_of-plan-requires-clause-taken
 plan_of-plan-requires-clause-taken g c =
-    let taken = subst (λ s. grow_refusal (asked_in (g.B.Bank.given s.parts.bank) s) c.args.wish ≡ None) c.take_apart-pieces.ensures.same c.requires.taken in
-    let p = c.take_apart-pieces.result in
+    let taken = subst (λ s. grow_refusal (asked_in (g.B.Bank.given s.parts.bank) s) c.args.wish ≡ None) c.part_fixed-pieces.ensures.same c.requires.taken in
+    let p = c.part_fixed-pieces.result in
     unrefused-plan (asked_of p.members p.work.resync (length (phases_of p.ahead)) (visible_size p.members p.limit) (option_map (sizes (g.B.Bank.given p.bank)).sectors p.backup)) c.args.wish taken
 
-pub of_pieces-requires : goal.of_pieces-requires
-of_pieces-requires g c =
-    let was = c.take_apart-pieces.ensures.ready in
-    let p = c.take_apart-pieces.result in
-    let same = c.take_apart-pieces.ensures.same in
+pub of_fixed-requires : goal.of_fixed-requires
+of_fixed-requires g c =
+    let was = c.part_fixed-pieces.ensures.ready in
+    let p = c.part_fixed-pieces.result in
+    let same = c.part_fixed-pieces.ensures.same in
     let given = g.B.Bank.given p.bank in
     let who = c.args.who in
     let end = c.ops-end.result in
@@ -62,9 +62,9 @@ of_pieces-requires g c =
 
 pub returns-clause-reply : goal.returns-clause-reply
 returns-clause-reply g c =
-    let was = c.take_apart-pieces.ensures.ready in
-    let p = c.take_apart-pieces.result in
-    let same = c.take_apart-pieces.ensures.same in
+    let was = c.part_fixed-pieces.ensures.ready in
+    let p = c.part_fixed-pieces.result in
+    let same = c.part_fixed-pieces.ensures.same in
     let given = g.B.Bank.given p.bank in
     let tape = g.B.Bank.tape p.bank in
     let who = c.args.who in
@@ -73,7 +73,7 @@ returns-clause-reply g c =
     let a = asked_of p.members p.work.resync (length (phases_of p.ahead)) (visible_size p.members p.limit) (option_map (sizes given).sectors p.backup) in
     let number = subst (λ s. who.number ≡ next_number who.caller s.parts.entries) same c.requires.next in
     let taken = subst (λ s. grow_refusal (asked_in (g.B.Bank.given s.parts.bank) s) wish ≡ None) same c.requires.taken in
-    reply-as g.B.Bank.given g.B.Bank.tape wish who (Planned c.plan_of-plan.result.steps wish) c.args.still c.of_pieces.result _ _ same c.of_pieces.ensures.same (record {
+    reply-as g.B.Bank.given g.B.Bank.tape wish who (Planned c.plan_of-plan.result.steps wish) c.args.still c.of_fixed.result _ _ same c.of_fixed.ensures.same (record {
       end = end;
       at_end = c.ops-end.ensures.count;
       is = c.append_entry.ensures.items;
@@ -83,29 +83,29 @@ returns-clause-reply g c =
 
 pub returns-clause-ended : goal.returns-clause-ended
 returns-clause-ended g c =
-    let p = c.take_apart-pieces.result in
-    end-as g.B.Bank.tape c.of_pieces.result _ c.of_pieces.ensures.same
+    let p = c.part_fixed-pieces.result in
+    end-as g.B.Bank.tape c.of_fixed.result _ c.of_fixed.ensures.same
     (ended-behind (g.B.Bank.tape p.bank) c.append_entry.new.epoch.first p.epoch.entries.items c.args.who c.ops-end.result [] (Planned c.plan_of-plan.result.steps c.args.wish) c.append_entry.ensures.items c.ops-end.ensures.count)
 
 pub returns-clause-left : goal.returns-clause-left
 returns-clause-left g c =
-    let was = c.take_apart-pieces.ensures.ready in
-    let p = c.take_apart-pieces.result in
+    let was = c.part_fixed-pieces.ensures.ready in
+    let p = c.part_fixed-pieces.result in
     let given = g.B.Bank.given p.bank in
     let wish = c.args.wish in
     let plan = c.plan_of-plan in
     let a = asked_of p.members p.work.resync (length (phases_of p.ahead)) (visible_size p.members p.limit) (option_map (sizes given).sectors p.backup) in
-    let taken = subst (λ s. grow_refusal (asked_in (g.B.Bank.given s.parts.bank) s) wish ≡ None) c.take_apart-pieces.ensures.same c.requires.taken in
+    let taken = subst (λ s. grow_refusal (asked_in (g.B.Bank.given s.parts.bank) s) wish ≡ None) c.part_fixed-pieces.ensures.same c.requires.taken in
     let ahead : phases_of c.all_left-pieces.result ≡ phases (shape_of p.members.newest) wish = c.all_left-pieces.ensures ∙ plan.ensures.phases in
     let steps : plan.result.steps ≡ phases_steps (shape_of p.members.newest) p.members.newest.size (phases_of c.all_left-pieces.result) =
     plan.ensures.steps ∙ ap (phases_steps (shape_of p.members.newest) p.members.newest.size) (sym ahead) in
     let idle = planned-idle a wish p.work refl (λ role. within-count given p.members was.kept.members_are.placed role) taken in
-    left-as plan.result.steps c.of_pieces.result _ c.of_pieces.ensures.same (omega (arith, idle, steps))
+    left-as plan.result.steps c.of_fixed.result _ c.of_fixed.ensures.same (omega (arith, idle, steps))
 
 pub returns-clause-planned : goal.returns-clause-planned
 returns-clause-planned g c =
-    let was = c.take_apart-pieces.ensures.ready in
-    let p = c.take_apart-pieces.result in
+    let was = c.part_fixed-pieces.ensures.ready in
+    let p = c.part_fixed-pieces.result in
     let given = g.B.Bank.given p.bank in
     let tape = g.B.Bank.tape p.bank in
     let who = c.args.who in
@@ -114,13 +114,13 @@ returns-clause-planned g c =
     let plan = c.plan_of-plan in
     let shape = shape_of p.members.newest in
     let a = asked_of p.members p.work.resync (length (phases_of p.ahead)) (visible_size p.members p.limit) (option_map (sizes given).sectors p.backup) in
-    let taken = subst (λ s. grow_refusal (asked_in (g.B.Bank.given s.parts.bank) s) wish ≡ None) c.take_apart-pieces.ensures.same c.requires.taken in
+    let taken = subst (λ s. grow_refusal (asked_in (g.B.Bank.given s.parts.bank) s) wish ≡ None) c.part_fixed-pieces.ensures.same c.requires.taken in
     let ahead : phases_of c.all_left-pieces.result ≡ phases shape wish = c.all_left-pieces.ensures ∙ plan.ensures.phases in
     let scope_is = scope-same given p.backup refl c.append_entry.ensures.uuid c.append_entry.ensures.given in
     let world_is : ◌≡◌ {A = World} (world_in given tape (scope_in given c.append_entry.new.epoch.uuid c.append_entry.new.epoch.given p.backup) c.append_entry.new.epoch.first) (world_in given tape (scope_in given p.epoch.uuid p.epoch.given p.backup) p.epoch.first) =
     λ i. world_in given tape (scope_is i) (c.append_entry.ensures.first i) in
     let items = c.append_entry.ensures.items in
-    planned-as g.B.Bank.given g.B.Bank.tape wish plan.result.steps c.of_pieces.result _ c.of_pieces.ensures.same (record {
+    planned-as g.B.Bank.given g.B.Bank.tape wish plan.result.steps c.of_fixed.result _ c.of_fixed.ensures.same (record {
       ahead = ahead;
       left_is = plan.ensures.steps ∙ ap (phases_steps shape p.members.newest.size) (sym ahead);
       some = let more = some-steps shape p.members.newest.size (phases shape wish) _ plan.result.first plan.ensures.phases in let is = plan.ensures.steps in omega (arith, more, is);
@@ -136,8 +136,8 @@ returns-clause-planned g c =
 
 pub returns-clause-goes : goal.returns-clause-goes
 returns-clause-goes g c =
-    let was = c.take_apart-pieces.ensures.ready in
-    let p = c.take_apart-pieces.result in
+    let was = c.part_fixed-pieces.ensures.ready in
+    let p = c.part_fixed-pieces.result in
     let given = g.B.Bank.given p.bank in
     let tape = g.B.Bank.tape p.bank in
     let who = c.args.who in
@@ -146,14 +146,14 @@ returns-clause-goes g c =
     let plan = c.plan_of-plan in
     let shape = shape_of p.members.newest in
     let a = asked_of p.members p.work.resync (length (phases_of p.ahead)) (visible_size p.members p.limit) (option_map (sizes given).sectors p.backup) in
-    let taken = subst (λ s. grow_refusal (asked_in (g.B.Bank.given s.parts.bank) s) wish ≡ None) c.take_apart-pieces.ensures.same c.requires.taken in
+    let taken = subst (λ s. grow_refusal (asked_in (g.B.Bank.given s.parts.bank) s) wish ≡ None) c.part_fixed-pieces.ensures.same c.requires.taken in
     let ahead : phases_of c.all_left-pieces.result ≡ phases shape wish = c.all_left-pieces.ensures ∙ plan.ensures.phases in
     let scope_is = scope-same given p.backup refl c.append_entry.ensures.uuid c.append_entry.ensures.given in
     let world_is : ◌≡◌ {A = World} (world_in given tape (scope_in given c.append_entry.new.epoch.uuid c.append_entry.new.epoch.given p.backup) c.append_entry.new.epoch.first) (world_in given tape (scope_in given p.epoch.uuid p.epoch.given p.backup) p.epoch.first) =
     λ i. world_in given tape (scope_is i) (c.append_entry.ensures.first i) in
     let aim_is : last_shape (if is_reshaping p.members.newest then final_shape p.members.newest else shape) (phases_of c.all_left-pieces.result) ≡ last_shape shape (phases_of c.all_left-pieces.result) =
     λ i. last_shape (if was.kept.members_are.still i then final_shape p.members.newest else shape) (phases_of c.all_left-pieces.result) in
-    goes-as g.B.Bank.given g.B.Bank.tape c.args.still c.of_pieces.result _ _ c.take_apart-pieces.ensures.same c.of_pieces.ensures.same (λ none t right.
+    goes-as g.B.Bank.given g.B.Bank.tape c.args.still c.of_fixed.result _ _ c.part_fixed-pieces.ensures.same c.of_fixed.ensures.same (λ none t right.
     subst (λ (s : Shape). GoTo (world_in given tape (scope_in given c.append_entry.new.epoch.uuid c.append_entry.new.epoch.given p.backup) c.append_entry.new.epoch.first) s c.append_entry.new.epoch.entries.items) (sym aim_is)
     (subst (λ (w : World). GoTo w (last_shape shape (phases_of c.all_left-pieces.result)) c.append_entry.new.epoch.entries.items) (sym world_is)
     (subst (λ (l : List Entry). GoTo (world_in given tape (scope_in given p.epoch.uuid p.epoch.given p.backup) p.epoch.first) (last_shape shape (phases_of c.all_left-pieces.result)) l) (sym c.append_entry.ensures.items)

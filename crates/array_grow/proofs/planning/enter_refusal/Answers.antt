@@ -22,14 +22,14 @@ use Rattle.array_grow.proofs.Idle.{grow-plain, grow-shaped, grow-plainly}
 use Rattle.array_grow.proofs.Fitting.{told-by, first-of, refusal-fits}
 use Rattle.array_grow.proofs.Told.{reply-as, end-as}
 use Rattle.array_grow.proofs.Parted.{before-as, both-limit, both-ahead}
-use Rattle.array_grow.proofs.planning.enter_refusal.Goals as goal
 use Rattle.array_transition.proofs.Parted.{room-for}
+use Rattle.array_grow.proofs.planning.enter_refusal.Goals as goal
 
-pub of_pieces-requires : goal.of_pieces-requires
-of_pieces-requires g c =
-    let was = c.take_apart-pieces.ensures.ready in
-    let p = c.take_apart-pieces.result in
-    let same = c.take_apart-pieces.ensures.same in
+pub of_fixed-requires : goal.of_fixed-requires
+of_fixed-requires g c =
+    let was = c.part_fixed-pieces.ensures.ready in
+    let p = c.part_fixed-pieces.result in
+    let same = c.part_fixed-pieces.ensures.same in
     let given = g.B.Bank.given p.bank in
     let who = c.args.who in
     let end = c.ops-end.result in
@@ -52,9 +52,9 @@ of_pieces-requires g c =
 
 pub returns-clause-reply : goal.returns-clause-reply
 returns-clause-reply g c =
-    let was = c.take_apart-pieces.ensures.ready in
-    let p = c.take_apart-pieces.result in
-    let same = c.take_apart-pieces.ensures.same in
+    let was = c.part_fixed-pieces.ensures.ready in
+    let p = c.part_fixed-pieces.result in
+    let same = c.part_fixed-pieces.ensures.same in
     let given = g.B.Bank.given p.bank in
     let tape = g.B.Bank.tape p.bank in
     let who = c.args.who in
@@ -64,7 +64,7 @@ returns-clause-reply g c =
     let a = asked_of p.members p.work.resync (length (phases_of p.ahead)) (visible_size p.members p.limit) (option_map (sizes given).sectors p.backup) in
     let number = subst (λ s. who.number ≡ next_number who.caller s.parts.entries) same c.requires.next in
     let why = subst (λ s. grow_refusal (asked_in (g.B.Bank.given s.parts.bank) s) wish ≡ Some refusal) same c.requires.why in
-    reply-as g.B.Bank.given g.B.Bank.tape wish who (Refused refusal) c.args.still c.of_pieces.result _ _ same c.of_pieces.ensures.same (record {
+    reply-as g.B.Bank.given g.B.Bank.tape wish who (Refused refusal) c.args.still c.of_fixed.result _ _ same c.of_fixed.ensures.same (record {
       end = end;
       at_end = c.ops-end.ensures.count;
       is = c.append_entry.ensures.items;
@@ -73,27 +73,29 @@ returns-clause-reply g c =
     })
 
 pub overflow_sub-pieces : goal.overflow_sub-pieces
-overflow_sub-pieces g c = subst (λ s. 1 ≤ s.parts.steps) c.take_apart-pieces.ensures.same c.requires.room
+overflow_sub-pieces g c = subst (λ s. 1 ≤ s.parts.steps) c.part_fixed-pieces.ensures.same c.requires.room
 
 pub check_number-requires : goal.check_number-requires
-check_number-requires g c = subst (λ s. c.args.who.number ≡ next_number c.args.who.caller s.parts.entries) c.take_apart-pieces.ensures.same c.requires.next
+check_number-requires g c =
+    subst (λ s. c.args.who.number ≡ next_number c.args.who.caller s.parts.entries) c.part_fixed-pieces.ensures.same c.requires.next
 
 pub append_entry-requires-clause-room : goal.append_entry-requires-clause-room
 append_entry-requires-clause-room g c =
-    room-for 1 c.take_apart-pieces.result.steps c.take_apart-pieces.result.epoch.entries.room c.take_apart-pieces.ensures.ready.room_left (subst (λ s. 1 ≤ s.parts.steps) c.take_apart-pieces.ensures.same c.requires.room) (omega arith)
+    room-for 1 c.part_fixed-pieces.result.steps c.part_fixed-pieces.result.epoch.entries.room c.part_fixed-pieces.ensures.ready.room_left (subst (λ s. 1 ≤ s.parts.steps) c.part_fixed-pieces.ensures.same c.requires.room) (omega arith)
 
 pub returns-clause-as_before : goal.returns-clause-as_before
-returns-clause-as_before g c = before-as c.args.still c.of_pieces.result _ _ c.take_apart-pieces.ensures.same c.of_pieces.ensures.same
+returns-clause-as_before g c =
+    before-as c.args.still c.of_fixed.result _ _ c.part_fixed-pieces.ensures.same c.of_fixed.ensures.same
     (record { bank = refl; uuid = c.append_entry.ensures.uuid; given = c.append_entry.ensures.given; first = c.append_entry.ensures.first; backup = refl; members = refl; work = refl; course = refl })
 
 pub returns-clause-limit : goal.returns-clause-limit
-returns-clause-limit g c = both-limit c.args.still c.of_pieces.result _ _ c.take_apart-pieces.ensures.same c.of_pieces.ensures.same refl
+returns-clause-limit g c = both-limit c.args.still c.of_fixed.result _ _ c.part_fixed-pieces.ensures.same c.of_fixed.ensures.same refl
 
 pub returns-clause-ahead : goal.returns-clause-ahead
-returns-clause-ahead g c = both-ahead c.args.still c.of_pieces.result _ _ c.take_apart-pieces.ensures.same c.of_pieces.ensures.same refl
+returns-clause-ahead g c = both-ahead c.args.still c.of_fixed.result _ _ c.part_fixed-pieces.ensures.same c.of_fixed.ensures.same refl
 
 pub returns-clause-ended : goal.returns-clause-ended
 returns-clause-ended g c =
-    let p = c.take_apart-pieces.result in
-    end-as g.B.Bank.tape c.of_pieces.result _ c.of_pieces.ensures.same
+    let p = c.part_fixed-pieces.result in
+    end-as g.B.Bank.tape c.of_fixed.result _ c.of_fixed.ensures.same
     (ended-behind (g.B.Bank.tape p.bank) c.append_entry.new.epoch.first p.epoch.entries.items c.args.who c.ops-end.result [] (Refused c.args.refusal) c.append_entry.ensures.items c.ops-end.ensures.count)

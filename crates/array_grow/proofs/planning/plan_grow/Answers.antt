@@ -28,7 +28,8 @@ enter_refusal-still-requires-clause-why g c =
 -- ---- what the calls ask for
 
 pub enter_refusal-still-requires-clause-next : goal.enter_refusal-still-requires-clause-next
-enter_refusal-still-requires-clause-next g c = number-room c.args.who 1 c.args.still c.judge-still.result.0 c.make_room.new.self c.judge-still.ensures.same c.in-Ok.ensures.room c.requires.next
+enter_refusal-still-requires-clause-next g c =
+    number-room c.args.who 1 c.args.still c.judge-still.result.0 c.make_room.new.self c.judge-still.ensures.same c.in-Ok.ensures.room c.requires.next
 
 pub enter_refusal-still-requires-clause-room : goal.enter_refusal-still-requires-clause-room
 enter_refusal-still-requires-clause-room g c = one-step c.judge-still.result.0 c.make_room.new.self c.in-Ok.ensures.room
@@ -38,7 +39,8 @@ window_for-still-requires g c =
     record { taken = asked-as g.B.Bank.given c.args.wish None c.judge-still.result.0 c.args.still c.judge-still.ensures.same (sym c.judge-still.ensures.first ∙ c.in_default.is) }
 
 pub enter_plan-still-requires-clause-next : goal.enter_plan-still-requires-clause-next
-enter_plan-still-requires-clause-next g c = number-room c.args.who 1 c.args.still c.window_for-still.result.0 c.make_room-2.new.self (c.window_for-still.ensures.same ∙ c.judge-still.ensures.same) c.in-Ok-make_room.ensures.room c.requires.next
+enter_plan-still-requires-clause-next g c =
+    number-room c.args.who 1 c.args.still c.window_for-still.result.0 c.make_room-2.new.self (c.window_for-still.ensures.same ∙ c.judge-still.ensures.same) c.in-Ok-make_room.ensures.room c.requires.next
 
 pub enter_plan-still-requires-clause-room : goal.enter_plan-still-requires-clause-room
 enter_plan-still-requires-clause-room g c = one-step c.window_for-still.result.0 c.make_room-2.new.self c.in-Ok-make_room.ensures.room
@@ -53,13 +55,16 @@ pub returns-in-Some-clause-judged : goal.returns-in-Some-clause-judged
 returns-in-Some-clause-judged g c = sym c.judge-still.ensures.first ∙ c.in-Some.is
 
 pub returns-in-Some-clause-as_before : goal.returns-in-Some-clause-as_before
-returns-in-Some-clause-as_before g c = before-room 1 c.args.still c.judge-still.result.0 c.make_room.new.self c.enter_refusal-still.result c.judge-still.ensures.same c.in-Ok.ensures.room c.enter_refusal-still.ensures.as_before
+returns-in-Some-clause-as_before g c =
+    before-room 1 c.args.still c.judge-still.result.0 c.make_room.new.self c.enter_refusal-still.result c.judge-still.ensures.same c.in-Ok.ensures.room c.enter_refusal-still.ensures.as_before
 
 pub returns-in-Some-clause-limit : goal.returns-in-Some-clause-limit
-returns-in-Some-clause-limit g c = limit-room 1 c.args.still c.judge-still.result.0 c.make_room.new.self c.enter_refusal-still.result c.judge-still.ensures.same c.in-Ok.ensures.room c.enter_refusal-still.ensures.limit
+returns-in-Some-clause-limit g c =
+    limit-room 1 c.args.still c.judge-still.result.0 c.make_room.new.self c.enter_refusal-still.result c.judge-still.ensures.same c.in-Ok.ensures.room c.enter_refusal-still.ensures.limit
 
 pub returns-in-Some-clause-refused : goal.returns-in-Some-clause-refused
-returns-in-Some-clause-refused g c = ahead-room 1 c.args.still c.judge-still.result.0 c.make_room.new.self c.enter_refusal-still.result c.judge-still.ensures.same c.in-Ok.ensures.room c.enter_refusal-still.ensures.ahead
+returns-in-Some-clause-refused g c =
+    ahead-room 1 c.args.still c.judge-still.result.0 c.make_room.new.self c.enter_refusal-still.result c.judge-still.ensures.same c.in-Ok.ensures.room c.enter_refusal-still.ensures.ahead
 
 -- ---- it is planned
 
@@ -73,10 +78,12 @@ pub returns-clause-judged : goal.returns-clause-judged
 returns-clause-judged g c = sym c.judge-still.ensures.first ∙ c.in_default.is
 
 pub returns-clause-as_before : goal.returns-clause-as_before
-returns-clause-as_before g c = before-room 1 c.args.still c.window_for-still.result.0 c.make_room-2.new.self c.enter_plan-still.result.0 (c.window_for-still.ensures.same ∙ c.judge-still.ensures.same) c.in-Ok-make_room.ensures.room c.enter_plan-still.ensures.as_before
+returns-clause-as_before g c =
+    before-room 1 c.args.still c.window_for-still.result.0 c.make_room-2.new.self c.enter_plan-still.result.0 (c.window_for-still.ensures.same ∙ c.judge-still.ensures.same) c.in-Ok-make_room.ensures.room c.enter_plan-still.ensures.as_before
 
 pub returns-clause-limit : goal.returns-clause-limit
-returns-clause-limit g c = limit-room 1 c.args.still c.window_for-still.result.0 c.make_room-2.new.self c.enter_plan-still.result.0 (c.window_for-still.ensures.same ∙ c.judge-still.ensures.same) c.in-Ok-make_room.ensures.room c.enter_plan-still.ensures.limit
+returns-clause-limit g c =
+    limit-room 1 c.args.still c.window_for-still.result.0 c.make_room-2.new.self c.enter_plan-still.result.0 (c.window_for-still.ensures.same ∙ c.judge-still.ensures.same) c.in-Ok-make_room.ensures.room c.enter_plan-still.ensures.limit
 
 -- ---- memory was short
 
@@ -102,16 +109,20 @@ pub returns-in-Err-made-clause-limit : goal.returns-in-Err-made-clause-limit
 returns-in-Err-made-clause-limit g c = limit-same c.args.still c.window_for-still.result.0 (c.window_for-still.ensures.same ∙ c.judge-still.ensures.same)
 
 pub returns-in-Err-make_room-clause-answered : goal.returns-in-Err-make_room-clause-answered
-returns-in-Err-make_room-clause-answered g c = entries-same c.args.still c.make_room-2.new.self (c.in-Err-make_room.ensures.unchanged ∙ c.window_for-still.ensures.same ∙ c.judge-still.ensures.same)
+returns-in-Err-make_room-clause-answered g c =
+    entries-same c.args.still c.make_room-2.new.self (c.in-Err-make_room.ensures.unchanged ∙ c.window_for-still.ensures.same ∙ c.judge-still.ensures.same)
 
 pub returns-in-Err-make_room-clause-unchanged : goal.returns-in-Err-make_room-clause-unchanged
 returns-in-Err-make_room-clause-unchanged g c = c.in-Err-make_room.ensures.unchanged ∙ c.window_for-still.ensures.same ∙ c.judge-still.ensures.same
 
 pub returns-in-Err-make_room-clause-refused : goal.returns-in-Err-make_room-clause-refused
-returns-in-Err-make_room-clause-refused g c = ahead-same c.args.still c.make_room-2.new.self (c.in-Err-make_room.ensures.unchanged ∙ c.window_for-still.ensures.same ∙ c.judge-still.ensures.same)
+returns-in-Err-make_room-clause-refused g c =
+    ahead-same c.args.still c.make_room-2.new.self (c.in-Err-make_room.ensures.unchanged ∙ c.window_for-still.ensures.same ∙ c.judge-still.ensures.same)
 
 pub returns-in-Err-make_room-clause-as_before : goal.returns-in-Err-make_room-clause-as_before
-returns-in-Err-make_room-clause-as_before g c = before-same c.args.still c.make_room-2.new.self (c.in-Err-make_room.ensures.unchanged ∙ c.window_for-still.ensures.same ∙ c.judge-still.ensures.same)
+returns-in-Err-make_room-clause-as_before g c =
+    before-same c.args.still c.make_room-2.new.self (c.in-Err-make_room.ensures.unchanged ∙ c.window_for-still.ensures.same ∙ c.judge-still.ensures.same)
 
 pub returns-in-Err-make_room-clause-limit : goal.returns-in-Err-make_room-clause-limit
-returns-in-Err-make_room-clause-limit g c = limit-same c.args.still c.make_room-2.new.self (c.in-Err-make_room.ensures.unchanged ∙ c.window_for-still.ensures.same ∙ c.judge-still.ensures.same)
+returns-in-Err-make_room-clause-limit g c =
+    limit-same c.args.still c.make_room-2.new.self (c.in-Err-make_room.ensures.unchanged ∙ c.window_for-still.ensures.same ∙ c.judge-still.ensures.same)

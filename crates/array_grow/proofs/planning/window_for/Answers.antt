@@ -14,13 +14,13 @@ use Rattle.array_grow.proofs.planning.window_for.Goals as goal
 
 pub plan_of-plan-requires-clause-taken : goal.plan_of-plan-requires-clause-taken
 plan_of-plan-requires-clause-taken g c =
-    let taken = subst (λ s. grow_refusal (asked_in (g.B.Bank.given s.parts.bank) s) c.args.wish.now ≡ None) c.take_apart-pieces.ensures.same c.requires.taken in
-    let p = c.take_apart-pieces.result in
+    let taken = subst (λ s. grow_refusal (asked_in (g.B.Bank.given s.parts.bank) s) c.args.wish.now ≡ None) c.part_fixed-pieces.ensures.same c.requires.taken in
+    let p = c.part_fixed-pieces.result in
     unrefused-plan (asked_of p.members p.work.resync (length (phases_of p.ahead)) (visible_size p.members p.limit) (option_map (sizes (g.B.Bank.given p.bank)).sectors p.backup)) c.args.wish.now taken
 
 pub overflow_mul-plan : goal.overflow_mul-plan
 overflow_mul-plan g c =
-    let p = c.take_apart-pieces.result in
+    let p = c.part_fixed-pieces.result in
     let plan = c.plan_of-plan.ensures in
     let short = windows-short (shape_of p.members.newest) p.members.newest.size (phases (shape_of p.members.newest) c.args.wish.now) plan.sound in
     let window = plan.window in
@@ -28,8 +28,8 @@ overflow_mul-plan g c =
 
 pub returns-clause-wide : goal.returns-clause-wide
 returns-clause-wide g c =
-    let p = c.take_apart-pieces.result in
+    let p = c.part_fixed-pieces.result in
     let window = c.plan_of-plan.ensures.window in
-    rw (c.take_apart-pieces.ensures.same)
+    rw (c.part_fixed-pieces.ensures.same)
     (ok-map c.zeros-made.result (λ v. length v.items ≡ c.plan_of-plan.result.window * 512) (λ v. 512 * largest_window (shape_of p.members.newest) p.members.newest.size (phases (shape_of p.members.newest) c.args.wish.now) ≤ length v.items)
     (λ v is. omega (arith, is, window)) c.zeros-made.ensures.len)

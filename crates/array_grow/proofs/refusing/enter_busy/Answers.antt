@@ -17,17 +17,17 @@ use Rattle.array_grow.proofs.Busy.{busy-fits, busy-moves}
 use Rattle.array_grow.proofs.Told.{replied-as, end-as, visible-as}
 use Rattle.array_grow.proofs.refusing.enter_busy.Goals as goal
 
-pub of_pieces-moving-requires-clause-ready : goal.of_pieces-moving-requires-clause-ready
-of_pieces-moving-requires-clause-ready g c = roomier c.take_apart-pieces.ensures.ready c.make_room.ensures.items c.make_room.ensures.keeps
+pub of_reshaping-moving-requires-clause-ready : goal.of_reshaping-moving-requires-clause-ready
+of_reshaping-moving-requires-clause-ready g c = roomier c.part_reshaping-pieces.ensures.ready c.make_room.ensures.items c.make_room.ensures.keeps
 
-pub of_pieces-moving-requires-2-clause-ready : goal.of_pieces-moving-requires-2-clause-ready
-of_pieces-moving-requires-2-clause-ready g c =
-    let was = c.take_apart-pieces.ensures.ready in
-    let p = c.take_apart-pieces.result.0 in
+pub of_reshaping-moving-requires-2-clause-ready : goal.of_reshaping-moving-requires-2-clause-ready
+of_reshaping-moving-requires-2-clause-ready g c =
+    let was = c.part_reshaping-pieces.ensures.ready in
+    let p = c.part_reshaping-pieces.result.0 in
     let given = g.B.Bank.given p.bank in
     let who = c.args.who in
     let end = c.ops-end.result in
-    let number = subst (λ s. who.number ≡ next_number who.caller s.parts.entries) c.take_apart-pieces.ensures.same c.requires.next in
+    let number = subst (λ s. who.number ≡ next_number who.caller s.parts.entries) c.part_reshaping-pieces.ensures.same c.requires.next in
     ready (entries_of who end (Refused (Busy Reshape) ∷ [])) was (grows-none (λ t. refl)) (shapes-same p.members.newest)
     (busy-moves who end was.kept number c.requires.caller c.ops-end.ensures.count)
     refl (λ slot. omega arith) (alone-keeps who end (Refused (Busy Reshape)) (λ n. refl) (λ limit. refl)) (λ none whole. whole) refl (scope-same given p.backup refl c.append_entry.ensures.uuid c.append_entry.ensures.given) c.append_entry.ensures.first c.make_room.ensures.items c.append_entry.ensures.items
@@ -35,14 +35,14 @@ of_pieces-moving-requires-2-clause-ready g c =
 
 pub returns-clause-reply : goal.returns-clause-reply
 returns-clause-reply g c request may =
-    let was = c.take_apart-pieces.ensures.ready in
-    let p = c.take_apart-pieces.result.0 in
+    let was = c.part_reshaping-pieces.ensures.ready in
+    let p = c.part_reshaping-pieces.result.0 in
     let given = g.B.Bank.given p.bank in
     let tape = g.B.Bank.tape p.bank in
     let who = c.args.who in
     let end = c.ops-end.result in
-    let number = subst (λ s. who.number ≡ next_number who.caller s.parts.entries) c.take_apart-pieces.ensures.same c.requires.next in
-    replied-as g.B.Bank.given g.B.Bank.tape request who (Refused (Busy Reshape)) c.args.moving c.of_pieces-moving-2.result _ _ c.take_apart-pieces.ensures.same c.of_pieces-moving-2.ensures.same (record {
+    let number = subst (λ s. who.number ≡ next_number who.caller s.parts.entries) c.part_reshaping-pieces.ensures.same c.requires.next in
+    replied-as g.B.Bank.given g.B.Bank.tape request who (Refused (Busy Reshape)) c.args.moving c.of_reshaping-moving-2.result _ _ c.part_reshaping-pieces.ensures.same c.of_reshaping-moving-2.ensures.same (record {
       end = end;
       at_end = c.ops-end.ensures.count;
       is = c.append_entry.ensures.items ∙ ap (λ (l : List Entry). l ++ entries_of who end (Refused (Busy Reshape) ∷ [])) c.make_room.ensures.items;
@@ -52,18 +52,18 @@ returns-clause-reply g c request may =
 
 pub returns-clause-ended : goal.returns-clause-ended
 returns-clause-ended g c =
-    let p = c.take_apart-pieces.result.0 in
-    end-as g.B.Bank.tape c.of_pieces-moving-2.result _ c.of_pieces-moving-2.ensures.same
+    let p = c.part_reshaping-pieces.result.0 in
+    end-as g.B.Bank.tape c.of_reshaping-moving-2.result _ c.of_reshaping-moving-2.ensures.same
     (ended-behind (g.B.Bank.tape p.bank) c.append_entry.new.epoch.first c.make_room.new.self.items c.args.who c.ops-end.result [] (Refused (Busy Reshape)) c.append_entry.ensures.items c.ops-end.ensures.count)
 
 pub returns-clause-visible : goal.returns-clause-visible
 returns-clause-visible g c =
-    let was = c.take_apart-pieces.ensures.ready in
-    let p = c.take_apart-pieces.result.0 in
-    visible-as c.args.moving _ c.take_apart-pieces.ensures.same (visible-is (list_length p.members.newest) (list_length p.members.newest) p.limit p.epoch.entries.items was.sized was.limited)
+    let was = c.part_reshaping-pieces.ensures.ready in
+    let p = c.part_reshaping-pieces.result.0 in
+    visible-as c.args.moving _ c.part_reshaping-pieces.ensures.same (visible-is (list_length p.members.newest) (list_length p.members.newest) p.limit p.epoch.entries.items was.sized was.limited)
 
 pub returns-in-Err-clause-visible : goal.returns-in-Err-clause-visible
 returns-in-Err-clause-visible g c =
-    let was = c.take_apart-pieces.ensures.ready in
-    let p = c.take_apart-pieces.result.0 in
-    visible-as c.args.moving _ c.take_apart-pieces.ensures.same (visible-is (list_length p.members.newest) (list_length p.members.newest) p.limit p.epoch.entries.items was.sized was.limited)
+    let was = c.part_reshaping-pieces.ensures.ready in
+    let p = c.part_reshaping-pieces.result.0 in
+    visible-as c.args.moving _ c.part_reshaping-pieces.ensures.same (visible-is (list_length p.members.newest) (list_length p.members.newest) p.limit p.epoch.entries.items was.sized was.limited)

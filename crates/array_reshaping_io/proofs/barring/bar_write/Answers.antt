@@ -2,7 +2,7 @@ use Rattle.std.proofs.Common.{◌≡◌, ◌+◌, ◌/◌, List, [], length, ref
 use Rattle.std.proofs.lemmas.List.Elements.{All-nil}
 use Rattle.array_reshaping_steps.specs.raid_types_Sectors.{sectors_of}
 use Rattle.array_reshaping_steps.proofs.raid_types_SectorLaws.{length-sectors_of}
-use Rattle.array_reshaping_steps.specs.sb_specs_Reading.{list_length}
+use Rattle.array_reshaping_steps.specs.sb_specs_Reading.{list_length, is_reshaping}
 use Rattle.array_reshaping_steps.specs.history_the_Entry.{Entry}
 use Rattle.array_reshaping_steps.specs.history_Flat.{length_of, limit_of}
 use Rattle.array_reshaping_steps.specs.history_Transfers.{last_end_from}
@@ -20,16 +20,18 @@ use Rattle.array_reshaping_steps.specs.raid_types_the_Fault_TheVariants.{NoMemor
 use Rattle.array_reshaping_steps.proofs.array_reshaping_laws_FirstLaws.{first-short}
 use Rattle.array_reshaping_steps.specs.array_members_Lacking.{HaveRolesFailed}
 use Rattle.array_reshaping_steps.proofs.array_reshaping_Calls.{two-of-101}
+use Rattle.array_reshaping_steps.proofs.array_type_Alike.{alike, goes-on}
 use Rattle.array_reshaping_io.proofs.barring.bar_write.Goals as goal
 
 -- ---- memory is short
 
 pub invariant_of-moving : goal.invariant_of-moving
-invariant_of-moving g c = roomier c.moving.invariant c.make_room.ensures.items c.make_room.ensures.keeps
+invariant_of-moving g c =
+    goes-on (c.moving.invariant.moves (ap (λ p. is_reshaping p.parts.members.newest) c.moving.view_is ∙ c.requires.active)).0 (roomier (c.moving.invariant.moves (ap (λ p. is_reshaping p.parts.members.newest) c.moving.view_is ∙ c.requires.active)).1 c.make_room.ensures.items c.make_room.ensures.keeps)
 
 pub returns-in-Err-clause-called : goal.returns-in-Err-clause-called
 returns-in-Err-clause-called g c =
-    let was = c.moving.invariant in
+    let was = (alike c.moving.invariant) in
     let a = c.moving.inside in
     let given = g.B.Bank.given a.bank in
     let faults = g.B.Bank.faults_of a.bank in
@@ -43,7 +45,8 @@ returns-in-Err-clause-called g c =
 -- ---- there is room
 
 pub returns-clause-called : goal.returns-clause-called
-returns-clause-called g c = rw (← c.moving.view_is) (called-roomed _ c.refuse_write.new.moving _ 2 c.make_room.ensures.items c.refuse_write.ensures.called)
+returns-clause-called g c =
+    rw (← c.moving.view_is) (called-roomed _ c.refuse_write.new.moving _ 2 c.make_room.ensures.items c.refuse_write.ensures.called)
 
 pub returns-clause-entered : goal.returns-clause-entered
 returns-clause-entered g c =
@@ -61,8 +64,8 @@ returns-clause-replied g c =
     let new = c.refuse_write.new.moving in
     let at = c.args.at in
     let long = length-sectors_of c.args.from.now in
-    let sized = subst (λ p. length_of (list_length p.parts.members.newest) p.parts.entries ≡ list_length p.parts.members.newest) c.moving.view_is c.moving.invariant.sized in
-    let limited = subst (λ p. limit_of p.parts.entries ≡ p.limit) c.moving.view_is c.moving.invariant.limited in
+    let sized = subst (λ p. length_of (list_length p.parts.members.newest) p.parts.entries ≡ list_length p.parts.members.newest) c.moving.view_is (alike c.moving.invariant).sized in
+    let limited = subst (λ p. limit_of p.parts.entries ≡ p.limit) c.moving.view_is (alike c.moving.invariant).limited in
     barred-replied old.course.window (list_length old.parts.members.newest) old.limit (relied_sector old.parts.members.newest old.parts.work.resync) at (at + length c.args.from.now / 512) (sectors_of c.args.from.now) c.args.who
     old.parts.entries new.parts.entries old.parts.members new.parts.members (left_in new.parts.work new.parts.members new.course new.ahead) (omega (arith, long)) c.requires.next sized limited c.refuse_write.result
     (subst (λ (l : List Entry). IsRefusedAlone c.args.who l new.parts.entries c.refuse_write.result) (c.make_room.ensures.items ∙ ap (λ p. p.parts.entries) c.moving.view_is) c.refuse_write.ensures.alone)
@@ -79,13 +82,15 @@ returns-clause-first g c = rw (← c.moving.view_is) c.refuse_write.ensures.firs
 -- ---- by what stands above
 
 pub invariant_of-moving-2 : goal.invariant_of-moving-2
-invariant_of-moving-2 g c = roomed c.make_room.ensures.items (two-of-101 c.in-Ok.ensures.ok) c.moving.invariant
+invariant_of-moving-2 g c =
+    goes-on (c.moving.invariant.moves (ap (λ p. is_reshaping p.parts.members.newest) c.moving.view_is ∙ c.requires.active)).0 (roomed c.make_room.ensures.items (two-of-101 c.in-Ok.ensures.ok) (c.moving.invariant.moves (ap (λ p. is_reshaping p.parts.members.newest) c.moving.view_is ∙ c.requires.active)).1)
 
 pub returns-clause-backup : goal.returns-clause-backup
 returns-clause-backup g c = rw (← c.moving.view_is) c.refuse_write.ensures.backup
 
 pub refuse_write-requires-clause-touches : goal.refuse_write-requires-clause-touches
-refuse_write-requires-clause-touches g c = subst (λ p. TouchesUnsure p.course.window c.args.at (c.args.at + length c.args.from.now / 512)) (sym c.moving.view_is) c.requires.touches
+refuse_write-requires-clause-touches g c =
+    subst (λ p. TouchesUnsure p.course.window c.args.at (c.args.at + length c.args.from.now / 512)) (sym c.moving.view_is) c.requires.touches
 
 pub returns-in-Err-clause-unchanged : goal.returns-in-Err-clause-unchanged
 returns-in-Err-clause-unchanged g c =
@@ -107,4 +112,5 @@ pub returns-in-Err-clause-entered : goal.returns-in-Err-clause-entered
 returns-in-Err-clause-entered g c = c.make_room.ensures.items ∙ ap (λ p. p.parts.entries) c.moving.view_is
 
 pub returns-in-Err-clause-failed : goal.returns-in-Err-clause-failed
-returns-in-Err-clause-failed g c = subst (λ p. HaveRolesFailed p.parts.members c.moving.inside.members (g.B.Bank.faults_of p.parts.bank) (g.B.Bank.faults_of c.moving.inside.bank)) c.moving.view_is (λ role slot held. inl held)
+returns-in-Err-clause-failed g c =
+    subst (λ p. HaveRolesFailed p.parts.members c.moving.inside.members (g.B.Bank.faults_of p.parts.bank) (g.B.Bank.faults_of c.moving.inside.bank)) c.moving.view_is (λ role slot held. inl held)

@@ -1,4 +1,4 @@
-use Rattle.std.proofs.Common.{inr, ◌≡◌, ◌≤◌, ◌+◌, ℕ, Option, [], ◌∷◌, Some, refl, sym, subst, arith, ap}
+use Rattle.std.proofs.Common.{inr, ◌≡◌, ◌≤◌, ◌+◌, ℕ, Option, [], ◌∷◌, Some, refl, sym, subst, arith, ap, ◌∙◌}
 use Rattle.std.specs.Prelude.{Result, Err}
 use Rattle.array_reshaping_steps.specs.raid_types_the_Fault.{Fault as AnyFault}
 use Rattle.array_reshaping_steps.specs.raid_types_the_Fault_TheVariants.{Refused as IsRefusedWith}
@@ -31,13 +31,16 @@ use Rattle.array_reshaping_steps.proofs.array_reshaping_laws_BarredLaws.{unwritt
 use Rattle.array_reshaping_steps.proofs.array_reshaping_laws_FirstLaws.{first-told, first-none}
 use Rattle.array_reshaping_steps.proofs.array_reshaping_Calls.{refused-same}
 use Rattle.array_reshaping_steps.proofs.array_specs_Lengths.{alone-keeps}
+use Rattle.array_reshaping_steps.proofs.array_type_Alike.{alike, goes-on}
+use Rattle.array_reshaping_steps.specs.sb_specs_Reading.{is_reshaping}
 use Rattle.array_reshaping_io.proofs.barring.refuse_write.Goals as goal
 
 -- ---- refused before the backup is asked
 
 pub invariant_of-moving : goal.invariant_of-moving
 invariant_of-moving g c =
-    let was = c.moving.invariant in
+    goes-on (c.moving.invariant.moves (ap (λ p. is_reshaping p.parts.members.newest) c.moving.view_is ∙ c.requires.active)).0 (
+    let was = (c.moving.invariant.moves (ap (λ p. is_reshaping p.parts.members.newest) c.moving.view_is ∙ c.requires.active)).1 in
     let a = c.moving.inside in
     let given = g.B.Bank.given a.bank in
     let scope = scope_in given a.epoch.uuid a.epoch.given (Some a.backup) in
@@ -51,11 +54,11 @@ invariant_of-moving g c =
     (λ t right. first-right was.kept was.limited c.open_span-window.result c.relied_sector-relied.result c.args.at (c.args.at + c.args.count) refusal c.relied_sector-relied.ensures.value c.in-Some.ensures.why t right) in
     ready (entries_of c.args.who end (Refused refusal ∷ [])) was (grows-none (λ t. refl)) (shapes-same a.members.newest) kept
     refl (λ slot. omega arith) (alone-keeps c.args.who end (Refused refusal) (λ n. refl) (λ limit. refl)) (λ none whole. whole) refl (scope-same given (Some a.backup) refl c.append_entry.ensures.uuid c.append_entry.ensures.given) c.append_entry.ensures.first refl c.append_entry.ensures.items
-    (let had = was.room_left in let room = c.append_entry.ensures.room in omega (arith, room, had, steps))
+    (let had = was.room_left in let room = c.append_entry.ensures.room in omega (arith, room, had, steps)))
 
 pub returns-in-Some-clause-called : goal.returns-in-Some-clause-called
 returns-in-Some-clause-called g c =
-    let was = c.moving.invariant in
+    let was = (alike c.moving.invariant) in
     let a = c.moving.inside in
     let given = g.B.Bank.given a.bank in
     let faults = g.B.Bank.faults_of a.bank in
@@ -95,7 +98,8 @@ returns-in-Some-clause-caused g c =
     (subst (λ (n : ℕ). IsRefusedFor (visible_size a.members a.limit) to (IsListUnwritten c.open_span-window.result n c.args.at to) a.members a.members c.in-Some.refusal) c.relied_sector-relied.ensures.value c.in-Some.ensures.why)))
 
 pub returns-in-Some-clause-backup : goal.returns-in-Some-clause-backup
-returns-in-Some-clause-backup g c = λ is.
+returns-in-Some-clause-backup g c =
+    λ is.
     unwritten-never c.open_span-window.result (visible_size c.moving.inside.members c.moving.inside.limit) c.relied_sector-relied.result c.args.at (c.args.at + c.args.count) c.moving.inside.members c.in-Some.refusal c.in-Some.ensures.why (refused-same c.in-Some.refusal BackupFault is)
 
 -- ---- the backup fails
@@ -138,3 +142,9 @@ append_entry-requires-clause-number g c = c.check_going.ensures
 
 pub returns-in-Some-clause-course : goal.returns-in-Some-clause-course
 returns-in-Some-clause-course g c = ap (λ p. p.course) c.moving.view_is
+
+pub returns-in-Some-clause-active : goal.returns-in-Some-clause-active
+returns-in-Some-clause-active g c = (ap (λ p. is_reshaping p.parts.members.newest) c.moving.view_is ∙ c.requires.active)
+
+pub returns-clause-active : goal.returns-clause-active
+returns-clause-active g c = c.clear.ensures.active

@@ -4,7 +4,7 @@ use Rattle.std.proofs.lemmas.List.Elements.{All-nil}
 use Rattle.array_reshaping_steps.specs.raid_types_the_Span.{Span}
 use Rattle.array_reshaping_steps.specs.raid_types_Sectors.{Sector, sectors_of}
 use Rattle.array_reshaping_steps.proofs.raid_types_SectorLaws.{length-sectors_of}
-use Rattle.array_reshaping_steps.specs.sb_specs_Reading.{list_length}
+use Rattle.array_reshaping_steps.specs.sb_specs_Reading.{list_length, is_clean, is_reshaping}
 use Rattle.array_reshaping_steps.specs.history_the_Entry.{Entry}
 use Rattle.array_reshaping_steps.specs.history_the_Event_TheVariants.{Read, Refused}
 use Rattle.array_reshaping_steps.specs.history_the_Request_TheVariants.{Read as AsksRead}
@@ -17,7 +17,7 @@ use Rattle.array_reshaping_steps.specs.array_members_Numbers.{bears}
 use Rattle.array_reshaping_steps.proofs.array_members_MovedLaws.{grows-none, moved-same}
 use Rattle.array_reshaping_steps.proofs.history_append_CallLaws.{torn-losses}
 use Rattle.array_reshaping_steps.specs.array_call_specs_Kept.{scope_in}
-use Rattle.array_reshaping_steps.specs.array_call_specs_Calls.{IsLossBy, WasSpare, IsRefusedFor}
+use Rattle.array_reshaping_steps.specs.array_call_specs_Calls.{IsLossBy, WasSpare, IsRefusedFor, IsAnswered, OnNoMemory}
 use Rattle.array_reshaping_steps.proofs.array_call_specs_LossLaws.{ended-behind}
 use Rattle.array_reshaping_steps.proofs.array_call_specs_ReadyLaws.{scope-same, list-same}
 use Rattle.array_reshaping_steps.proofs.array_call_specs_ReplyLaws.{inside-losses, replied}
@@ -31,22 +31,20 @@ use Rattle.array_reshaping_steps.proofs.array_reshaping_invariant_Refusals.{quie
 use Rattle.array_reshaping_steps.proofs.array_reshaping_invariant_Resting.{resting-moves}
 use Rattle.array_reshaping_steps.specs.array_specs_Parts.{visible_size, left_in}
 use Rattle.array_reshaping_steps.specs.array_reshaping_laws_Ready.{bytes_in}
-use Rattle.array_reshaping_steps.specs.array_specs_Calls.{moving_world}
+use Rattle.array_reshaping_steps.specs.array_specs_Calls.{moving_world, IsCalled}
 use Rattle.array_reshaping_steps.proofs.array_reshaping_laws_Kept.{ready, shapes-same}
 use Rattle.array_reshaping_steps.proofs.array_specs_Called.{not_254, alone-lossless, called}
 use Rattle.array_reshaping_steps.proofs.array_reshaping_laws_Reading.{none-read, read-quiet, no-sectors, first-right, first-reply}
 use Rattle.array_reshaping_steps.specs.raid_types_the_Fault.{Fault as AnyFault}
 use Rattle.array_reshaping_steps.specs.raid_types_the_Fault_TheVariants.{Refused as IsRefusedWith, NoMemory}
 use Rattle.array_reshaping_steps.specs.bank_Tape.{AreSectors}
-use Rattle.array_reshaping_steps.specs.array_call_specs_Calls.{IsAnswered, OnNoMemory}
 use Rattle.array_reshaping_steps.proofs.array_reshaping_laws_WriteLaws.{roomed, called-roomed}
 use Rattle.array_reshaping_steps.proofs.array_reshaping_laws_FirstLaws.{first-short, first-told, first-none, first-seen}
 use Rattle.array_reshaping_steps.proofs.array_reshaping_Calls.{still-called, one-of-51, whole-as, some-of, called-over, never-falls}
 use Rattle.array_reshaping_steps.specs.stripe_row_Rows.{present}
-use Rattle.array_reshaping_steps.specs.sb_specs_Reading.{is_clean}
 use Rattle.array_reshaping_steps.specs.array_members_Lacking.{HaveRolesFailed}
-use Rattle.array_reshaping_steps.specs.array_specs_Calls.{IsCalled}
 use Rattle.array_reshaping_steps.proofs.array_specs_Lengths.{alone-keeps}
+use Rattle.array_reshaping_steps.proofs.array_type_Alike.{alike, goes-on}
 use Rattle.array_reshaping_io.proofs.reading.read.Goals as goal
 
 -- what follows where memory is short, where it never is
@@ -59,7 +57,8 @@ never-short (Err NoMemory) P none = absurd none
 
 pub invariant_of-moving-in-Some : goal.invariant_of-moving-in-Some
 invariant_of-moving-in-Some g c =
-    let was = c.moving.invariant in
+    goes-on (c.moving.invariant.moves (ap (λ p. is_reshaping p.parts.members.newest) c.moving.view_is ∙ c.requires.active)).0 (
+    let was = (c.moving.invariant.moves (ap (λ p. is_reshaping p.parts.members.newest) c.moving.view_is ∙ c.requires.active)).1 in
     let a = c.moving.inside in
     let given = g.B.Bank.given a.bank in
     let scope = scope_in given a.epoch.uuid a.epoch.given (Some a.backup) in
@@ -77,11 +76,11 @@ invariant_of-moving-in-Some g c =
     (first-right was.kept was.limited hidden relied c.args.at (c.args.at + count) refusal c.relied_sector-relied.ensures.value why) in
     ready (entries_of c.args.who end (Refused refusal ∷ [])) was (grows-none (λ t. refl)) (shapes-same a.members.newest) kept
     refl (never-falls _) (alone-keeps c.args.who end (Refused refusal) (λ n. refl) (λ limit. refl)) (λ none whole. whole) refl (scope-same given (Some a.backup) refl c.append_entry.ensures.uuid c.append_entry.ensures.given) c.append_entry.ensures.first c.make_room.ensures.items c.append_entry.ensures.items
-    (omega (arith, c.append_entry.ensures.room, c.in-Ok-make_room.ensures.ok))
+    (omega (arith, c.append_entry.ensures.room, c.in-Ok-make_room.ensures.ok)))
 
 pub returns-in-Some-clause-answered : goal.returns-in-Some-clause-answered
 returns-in-Some-clause-answered g c =
-    let was = c.moving.invariant in
+    let was = (alike c.moving.invariant) in
     let a = c.moving.inside in
     let number : c.args.who.number ≡ next_number c.args.who.caller a.epoch.entries.items = c.requires.next ∙ ap (λ p. next_number c.args.who.caller p.parts.entries) (sym c.moving.view_is) in
     let count = length c.args.into.now / 512 in
@@ -95,7 +94,7 @@ returns-in-Some-clause-answered g c =
 
 pub returns-in-Some-clause-called : goal.returns-in-Some-clause-called
 returns-in-Some-clause-called g c =
-    let was = c.moving.invariant in
+    let was = (alike c.moving.invariant) in
     let a = c.moving.inside in
     let given = g.B.Bank.given a.bank in
     let scope = scope_in given a.epoch.uuid a.epoch.given (Some a.backup) in
@@ -140,7 +139,8 @@ returns-in-Some-clause-caused g c =
 
 pub invariant_of-moving-then-asked-eq0 : goal.invariant_of-moving-then-asked-eq0
 invariant_of-moving-then-asked-eq0 g c =
-    let was = c.moving.invariant in
+    goes-on (c.moving.invariant.moves (ap (λ p. is_reshaping p.parts.members.newest) c.moving.view_is ∙ c.requires.active)).0 (
+    let was = (c.moving.invariant.moves (ap (λ p. is_reshaping p.parts.members.newest) c.moving.view_is ∙ c.requires.active)).1 in
     let a = c.moving.inside in
     let given = g.B.Bank.given a.bank in
     let scope = scope_in given a.epoch.uuid a.epoch.given (Some a.backup) in
@@ -158,7 +158,7 @@ invariant_of-moving-then-asked-eq0 g c =
     ready (entries_of c.args.who end (Read c.args.at body ∷ [])) was (grows-none (λ t. refl)) (shapes-same a.members.newest) kept
     refl (never-falls _) (alone-keeps c.args.who end (Read c.args.at body) (λ n. refl) (λ limit. refl)) (λ none whole. whole) refl (scope-same given (Some a.backup) refl c.append_entry-then-asked-eq0.ensures.uuid c.append_entry-then-asked-eq0.ensures.given)
     c.append_entry-then-asked-eq0.ensures.first c.make_room.ensures.items c.append_entry-then-asked-eq0.ensures.items
-    (omega (arith, c.append_entry-then-asked-eq0.ensures.room, c.in-Ok-make_room.ensures.ok))
+    (omega (arith, c.append_entry-then-asked-eq0.ensures.room, c.in-Ok-make_room.ensures.ok)))
 
 pub returns-then-asked-eq0-clause-answered : goal.returns-then-asked-eq0-clause-answered
 returns-then-asked-eq0-clause-answered g c =
@@ -177,7 +177,7 @@ returns-then-asked-eq0-clause-answered g c =
 
 pub returns-then-asked-eq0-clause-called : goal.returns-then-asked-eq0-clause-called
 returns-then-asked-eq0-clause-called g c =
-    let was = c.moving.invariant in
+    let was = (alike c.moving.invariant) in
     let a = c.moving.inside in
     let given = g.B.Bank.given a.bank in
     let scope = scope_in given a.epoch.uuid a.epoch.given (Some a.backup) in
@@ -226,7 +226,7 @@ returns-then-asked-eq0-clause-caused g c =
 
 pub returns-in-Err-make_room-clause-called : goal.returns-in-Err-make_room-clause-called
 returns-in-Err-make_room-clause-called g c =
-    let was = c.moving.invariant in
+    let was = (alike c.moving.invariant) in
     let a = c.moving.inside in
     let given = g.B.Bank.given a.bank in
     let faults = g.B.Bank.faults_of a.bank in
@@ -240,7 +240,8 @@ returns-in-Err-make_room-clause-called g c =
 -- ---- the others
 
 pub invariant_of-moving-2 : goal.invariant_of-moving-2
-invariant_of-moving-2 g c = roomed c.make_room.ensures.items (let room = c.in-Ok-make_room.ensures.ok in omega (arith, room)) c.moving.invariant
+invariant_of-moving-2 g c =
+    goes-on (c.moving.invariant.moves (ap (λ p. is_reshaping p.parts.members.newest) c.moving.view_is ∙ c.requires.active)).0 (roomed c.make_room.ensures.items (let room = c.in-Ok-make_room.ensures.ok in omega (arith, room)) (c.moving.invariant.moves (ap (λ p. is_reshaping p.parts.members.newest) c.moving.view_is ∙ c.requires.active)).1)
 
 pub read_some-requires-clause-fine : goal.read_some-requires-clause-fine
 read_some-requires-clause-fine g c =
@@ -277,7 +278,8 @@ pub returns-clause-unchanged : goal.returns-clause-unchanged
 returns-clause-unchanged g c = never-short c.read_some.result (c.read_some.new.moving ≡ c.args.moving.now) c.read_some.ensures.memory
 
 pub returns-clause-called : goal.returns-clause-called
-returns-clause-called g c = called-over g.B.Bank.given g.B.Bank.tape g.B.Bank.faults_of c.moving.view_is (called-roomed _ c.read_some.new.moving _ 1 c.make_room.ensures.items c.read_some.ensures.called)
+returns-clause-called g c =
+    called-over g.B.Bank.given g.B.Bank.tape g.B.Bank.faults_of c.moving.view_is (called-roomed _ c.read_some.new.moving _ 1 c.make_room.ensures.items c.read_some.ensures.called)
 
 pub returns-clause-others : goal.returns-clause-others
 returns-clause-others g c = rw (← c.moving.view_is) c.read_some.ensures.others
@@ -306,22 +308,25 @@ pub returns-in-Err-make_room-clause-first : goal.returns-in-Err-make_room-clause
 returns-in-Err-make_room-clause-first g c = first-short _ _ NoMemory refl
 
 pub returns-in-Some-clause-first : goal.returns-in-Some-clause-first
-returns-in-Some-clause-first g c = rw (← c.moving.view_is) (first-told _ _ c.in-Some.refusal (first-seen _ _ _ c.visible-sectors.ensures.value c.in-Some.ensures.first))
+returns-in-Some-clause-first g c =
+    rw (← c.moving.view_is) (first-told _ _ c.in-Some.refusal (first-seen _ _ _ c.visible-sectors.ensures.value c.in-Some.ensures.first))
 
 pub returns-then-asked-eq0-clause-first : goal.returns-then-asked-eq0-clause-first
 returns-then-asked-eq0-clause-first g c = rw (← c.moving.view_is) (first-none _ _ (first-seen _ _ _ c.visible-sectors.ensures.value c.in_default.ensures.first))
 
 pub returns-clause-first : goal.returns-clause-first
-returns-clause-first g c = rw (← c.moving.view_is) (first-none _ c.read_some.result (first-seen _ _ _ c.visible-sectors.ensures.value c.in_default.ensures.first))
+returns-clause-first g c =
+    rw (← c.moving.view_is) (first-none _ c.read_some.result (first-seen _ _ _ c.visible-sectors.ensures.value c.in_default.ensures.first))
 
 -- ---- by what stands above
 
 pub invariant_of-moving : goal.invariant_of-moving
-invariant_of-moving g c = roomed c.make_room.ensures.items (let had = c.moving.invariant.room_left in let keeps = c.make_room.ensures.keeps in omega (arith, had, keeps)) c.moving.invariant
+invariant_of-moving g c =
+    goes-on (c.moving.invariant.moves (ap (λ p. is_reshaping p.parts.members.newest) c.moving.view_is ∙ c.requires.active)).0 (roomed c.make_room.ensures.items (let had = (c.moving.invariant.moves (ap (λ p. is_reshaping p.parts.members.newest) c.moving.view_is ∙ c.requires.active)).1.room_left in let keeps = c.make_room.ensures.keeps in omega (arith, had, keeps)) (c.moving.invariant.moves (ap (λ p. is_reshaping p.parts.members.newest) c.moving.view_is ∙ c.requires.active)).1)
 
 pub returns-in-Err-clause-called : goal.returns-in-Err-clause-called
 returns-in-Err-clause-called g c =
-    let kept = c.moving.invariant.kept in
+    let kept = (alike c.moving.invariant).kept in
     subst (λ p. IsCalled g.B.Bank.tells (g.B.Bank.given p.parts.bank) (g.B.Bank.tape p.parts.bank) (g.B.Bank.tape p.parts.bank) (g.B.Bank.faults_of p.parts.bank) (g.B.Bank.faults_of p.parts.bank) p p) c.moving.view_is
     (still-called _ kept.members_are.placed kept.members_are.unlost (λ t. (kept.recorded t).ended) (λ t. (kept.recorded t).begun))
 
@@ -329,10 +334,12 @@ pub returns-in-Err-make_room-clause-answered : goal.returns-in-Err-make_room-cla
 returns-in-Err-make_room-clause-answered g c = c.make_room.ensures.items ∙ ap (λ p. p.parts.entries) c.moving.view_is
 
 pub returns-in-Err-make_room-clause-failed : goal.returns-in-Err-make_room-clause-failed
-returns-in-Err-make_room-clause-failed g c = subst (λ p. HaveRolesFailed p.parts.members c.moving.inside.members (g.B.Bank.faults_of p.parts.bank) (g.B.Bank.faults_of c.moving.inside.bank)) c.moving.view_is (λ role slot held. inl held)
+returns-in-Err-make_room-clause-failed g c =
+    subst (λ p. HaveRolesFailed p.parts.members c.moving.inside.members (g.B.Bank.faults_of p.parts.bank) (g.B.Bank.faults_of c.moving.inside.bank)) c.moving.view_is (λ role slot held. inl held)
 
 pub returns-in-Some-clause-failed : goal.returns-in-Some-clause-failed
-returns-in-Some-clause-failed g c = subst (λ p. HaveRolesFailed p.parts.members c.moving.inside.members (g.B.Bank.faults_of p.parts.bank) (g.B.Bank.faults_of c.moving.inside.bank)) c.moving.view_is (λ role slot held. inl held)
+returns-in-Some-clause-failed g c =
+    subst (λ p. HaveRolesFailed p.parts.members c.moving.inside.members (g.B.Bank.faults_of p.parts.bank) (g.B.Bank.faults_of c.moving.inside.bank)) c.moving.view_is (λ role slot held. inl held)
 
 pub returns-in-Some-clause-course : goal.returns-in-Some-clause-course
 returns-in-Some-clause-course g c = ap (λ p. p.course) c.moving.view_is
@@ -344,10 +351,12 @@ pub returns-in-Some-clause-given : goal.returns-in-Some-clause-given
 returns-in-Some-clause-given g c = ap (λ p. g.B.Bank.given p.parts.bank) c.moving.view_is
 
 pub returns-in-Some-clause-others : goal.returns-in-Some-clause-others
-returns-in-Some-clause-others g c = λ t s k ne. ap (λ p. present (g.B.Bank.given c.args.moving.now.parts.bank) (g.B.Bank.tape p.parts.bank) s k) c.moving.view_is
+returns-in-Some-clause-others g c =
+    λ t s k ne. ap (λ p. present (g.B.Bank.given c.args.moving.now.parts.bank) (g.B.Bank.tape p.parts.bank) s k) c.moving.view_is
 
 pub returns-then-asked-eq0-clause-failed : goal.returns-then-asked-eq0-clause-failed
-returns-then-asked-eq0-clause-failed g c = subst (λ p. HaveRolesFailed p.parts.members c.moving.inside.members (g.B.Bank.faults_of p.parts.bank) (g.B.Bank.faults_of c.moving.inside.bank)) c.moving.view_is (λ role slot held. inl held)
+returns-then-asked-eq0-clause-failed g c =
+    subst (λ p. HaveRolesFailed p.parts.members c.moving.inside.members (g.B.Bank.faults_of p.parts.bank) (g.B.Bank.faults_of c.moving.inside.bank)) c.moving.view_is (λ role slot held. inl held)
 
 pub returns-then-asked-eq0-clause-course : goal.returns-then-asked-eq0-clause-course
 returns-then-asked-eq0-clause-course g c = ap (λ p. p.course) c.moving.view_is
@@ -359,7 +368,8 @@ pub returns-then-asked-eq0-clause-given : goal.returns-then-asked-eq0-clause-giv
 returns-then-asked-eq0-clause-given g c = ap (λ p. g.B.Bank.given p.parts.bank) c.moving.view_is
 
 pub returns-then-asked-eq0-clause-others : goal.returns-then-asked-eq0-clause-others
-returns-then-asked-eq0-clause-others g c = λ t s k ne. ap (λ p. present (g.B.Bank.given c.args.moving.now.parts.bank) (g.B.Bank.tape p.parts.bank) s k) c.moving.view_is
+returns-then-asked-eq0-clause-others g c =
+    λ t s k ne. ap (λ p. present (g.B.Bank.given c.args.moving.now.parts.bank) (g.B.Bank.tape p.parts.bank) s k) c.moving.view_is
 
 pub returns-in-Err-make_room-clause-unchanged : goal.returns-in-Err-make_room-clause-unchanged
 returns-in-Err-make_room-clause-unchanged g c =
@@ -375,7 +385,7 @@ pub returns-in-Err-make_room-clause-caused : goal.returns-in-Err-make_room-claus
 returns-in-Err-make_room-clause-caused g c = ap (λ p. p.parts.members) c.moving.view_is
 
 pub first_read_refusal_from-requires-clause-roles : goal.first_read_refusal_from-requires-clause-roles
-first_read_refusal_from-requires-clause-roles g c = c.moving.invariant.kept.members_are.placed.roles
+first_read_refusal_from-requires-clause-roles g c = (alike c.moving.invariant).kept.members_are.placed.roles
 
 pub first_read_refusal_from-requires-clause-visible : goal.first_read_refusal_from-requires-clause-visible
 first_read_refusal_from-requires-clause-visible g c = c.visible-sectors.ensures.within
@@ -406,7 +416,8 @@ pub from_bytes-body-requires : goal.from_bytes-body-requires
 from_bytes-body-requires g c = whole-as c.in-Ok.bytes.items c.args.into.now c.in-Ok.ensures.len c.requires.whole
 
 pub returns-then-asked-eq0-clause-holds : goal.returns-then-asked-eq0-clause-holds
-returns-then-asked-eq0-clause-holds g c = λ t right i few.
+returns-then-asked-eq0-clause-holds g c =
+    λ t right i few.
     let zero = c.if-asked-eq0.true in
     absurd (omega (arith, few, zero))
 
@@ -414,16 +425,32 @@ pub read_some-requires-clause-some : goal.read_some-requires-clause-some
 read_some-requires-clause-some g c = some-of _ c.if-asked-eq0.false
 
 pub first_read_refusal_from-requires-clause-fit : goal.first_read_refusal_from-requires-clause-fit
-first_read_refusal_from-requires-clause-fit g c = c.moving.invariant.kept.members_are.placed.fit
+first_read_refusal_from-requires-clause-fit g c = (alike c.moving.invariant).kept.members_are.placed.fit
 
 pub relied_sector-relied-requires-clause-fit : goal.relied_sector-relied-requires-clause-fit
-relied_sector-relied-requires-clause-fit g c = c.moving.invariant.kept.members_are.placed.fit
+relied_sector-relied-requires-clause-fit g c = (alike c.moving.invariant).kept.members_are.placed.fit
 
 pub relied_sector-relied-requires-clause-progress : goal.relied_sector-relied-requires-clause-progress
-relied_sector-relied-requires-clause-progress g c = c.moving.invariant.kept.progress
+relied_sector-relied-requires-clause-progress g c =
+    (c.moving.invariant.moves (ap (λ p. is_reshaping p.parts.members.newest) c.moving.view_is ∙ c.requires.active)).1.kept.progress
 
 pub returns-in-Err-clause-failed : goal.returns-in-Err-clause-failed
 returns-in-Err-clause-failed g c = λ role slot held. inl held
 
 pub read_some-requires-clause-caller : goal.read_some-requires-clause-caller
 read_some-requires-clause-caller g c = c.requires.caller
+
+pub returns-in-Some-clause-active : goal.returns-in-Some-clause-active
+returns-in-Some-clause-active g c = (ap (λ p. is_reshaping p.parts.members.newest) c.moving.view_is ∙ c.requires.active)
+
+pub returns-then-asked-eq0-clause-active : goal.returns-then-asked-eq0-clause-active
+returns-then-asked-eq0-clause-active g c = (ap (λ p. is_reshaping p.parts.members.newest) c.moving.view_is ∙ c.requires.active)
+
+pub returns-in-Err-make_room-clause-active : goal.returns-in-Err-make_room-clause-active
+returns-in-Err-make_room-clause-active g c = (ap (λ p. is_reshaping p.parts.members.newest) c.moving.view_is ∙ c.requires.active)
+
+pub returns-clause-active : goal.returns-clause-active
+returns-clause-active g c = c.read_some.ensures.active
+
+pub returns-in-Err-clause-active : goal.returns-in-Err-clause-active
+returns-in-Err-clause-active g c = (ap (λ p. is_reshaping p.parts.members.newest) c.moving.view_is ∙ c.requires.active)

@@ -4,7 +4,7 @@ use Rattle.std.specs.Vec.{with_items}
 use Rattle.array_reshaping_steps.specs.raid_types_the_Span.{Span}
 use Rattle.array_reshaping_steps.specs.raid_types_Sectors.{Sector, IsWhole, sectors_of}
 use Rattle.array_reshaping_steps.proofs.raid_types_SectorLaws.{length-sectors_of}
-use Rattle.array_reshaping_steps.specs.sb_specs_Reading.{list_length, is_clean}
+use Rattle.array_reshaping_steps.specs.sb_specs_Reading.{list_length, is_clean, is_reshaping}
 use Rattle.array_reshaping_steps.proofs.sb_specs_ValidFields.{few-roles}
 use Rattle.array_reshaping_steps.specs.stripe_row_Rows.{present}
 use Rattle.array_reshaping_steps.specs.history_the_Entry.{Entry}
@@ -46,11 +46,12 @@ use Rattle.array_reshaping_steps.proofs.array_reshaping_laws_Reading.{IsFetched,
 use Rattle.array_reshaping_steps.proofs.array_reshaping_Calls.{room-49, known-moved, le-same, room-after-49, scratch-of, whole-as, within-same, called-over}
 use Rattle.std.proofs.lemmas.List.{length-take-le}
 use Rattle.array_reshaping_steps.specs.crash_safety_laws_Marking.{AreOthersPresent}
+use Rattle.array_reshaping_steps.proofs.array_type_Alike.{alike, goes-on}
 use Rattle.array_reshaping_io.proofs.reading.read_some.Goals as goal
 
 pub overflow_cast-count : goal.overflow_cast-count
 overflow_cast-count g c =
-    let members = c.moving.invariant.kept.members_are in
+    let members = (c.moving.invariant.moves (ap (λ p. is_reshaping p.parts.members.newest) c.moving.view_is ∙ c.requires.active)).1.kept.members_are in
     let few = few-roles c.moving.inside.members.newest members.placed.fit.valid in
     let roles = members.backed.roles in
     let long = c.len-count.ensures in
@@ -58,7 +59,7 @@ overflow_cast-count g c =
 
 pub unassigned_roles-before-requires-clause-few : goal.unassigned_roles-before-requires-clause-few
 unassigned_roles-before-requires-clause-few g c =
-    let members = c.moving.invariant.kept.members_are in
+    let members = (c.moving.invariant.moves (ap (λ p. is_reshaping p.parts.members.newest) c.moving.view_is ∙ c.requires.active)).1.kept.members_are in
     let few = few-roles c.moving.inside.members.newest members.placed.fit.valid in
     let roles = members.backed.roles in
     let long = c.len-count.ensures in
@@ -66,7 +67,7 @@ unassigned_roles-before-requires-clause-few g c =
 
 pub newly_unassigned-roles-requires-clause-few : goal.newly_unassigned-roles-requires-clause-few
 newly_unassigned-roles-requires-clause-few g c =
-    let members = c.moving.invariant.kept.members_are in
+    let members = (c.moving.invariant.moves (ap (λ p. is_reshaping p.parts.members.newest) c.moving.view_is ∙ c.requires.active)).1.kept.members_are in
     let few = few-roles c.moving.inside.members.newest members.placed.fit.valid in
     let roles = members.backed.roles in
     let long = c.len-count.ensures in
@@ -74,7 +75,7 @@ newly_unassigned-roles-requires-clause-few g c =
 
 pub bytes_of-wide-requires : goal.bytes_of-wide-requires
 bytes_of-wide-requires g c =
-    let was = c.moving.invariant in
+    let was = (c.moving.invariant.moves (ap (λ p. is_reshaping p.parts.members.newest) c.moving.view_is ∙ c.requires.active)).1 in
     let a = c.moving.inside in
     let long = c.len.ensures in
     subst (λ (o : Option Span). IfSome o (λ span. 512 * (span.hi - span.lo) ≤ c.len.result)) (sym c.backed_up_span-hidden.ensures)
@@ -89,7 +90,8 @@ read_around_window-fetched-requires-clause-buffer g c =
 
 pub invariant_of-moving : goal.invariant_of-moving
 invariant_of-moving g c =
-    let was = c.moving.invariant in
+    goes-on (c.moving.invariant.moves (ap (λ p. is_reshaping p.parts.members.newest) c.moving.view_is ∙ c.requires.active)).0 (
+    let was = (c.moving.invariant.moves (ap (λ p. is_reshaping p.parts.members.newest) c.moving.view_is ∙ c.requires.active)).1 in
     let a = c.moving.inside in
     let steps : 1 ≤ a.steps = subst (λ p. 1 ≤ p.parts.steps) (sym c.moving.view_is) c.requires.room in
     let fine : IsRefusalOf (visible_size a.members a.limit) (c.args.at + length c.args.into.now / 512) (IsUnreadAround c.backed_up_span-hidden.result c.relied_sector-relied.result c.args.at (c.args.at + length c.args.into.now / 512)) a.members None =
@@ -140,11 +142,11 @@ invariant_of-moving g c =
     refl did.keeps.bank.counts (behind-keeps c.args.who end roles spares (Refused refusal) (λ n. refl) (λ limit. refl))
     (behind-whole tape' scope a.epoch.first a.epoch.entries.items c.args.who end roles spares (Refused refusal) did.keeps.moved (missing-since roles did.keeps.moved since.vacant)) did.keeps.bank.same (scope-same given (Some a.backup) did.keeps.bank.same c.append_after_losses.ensures.uuid c.append_after_losses.ensures.given) c.append_after_losses.ensures.first refl
     c.append_after_losses.ensures.items
-    (room-after-49 a.steps a.epoch.entries.room c.append_after_losses.new.epoch.entries.room was.room_left c.append_after_losses.ensures.room steps))
+    (room-after-49 a.steps a.epoch.entries.room c.append_after_losses.new.epoch.entries.room was.room_left c.append_after_losses.ensures.room steps)))
 
 pub returns-in-Some-clause-answered : goal.returns-in-Some-clause-answered
 returns-in-Some-clause-answered g c =
-    let was = c.moving.invariant in
+    let was = (c.moving.invariant.moves (ap (λ p. is_reshaping p.parts.members.newest) c.moving.view_is ∙ c.requires.active)).1 in
     let a = c.moving.inside in
     let fine : IsRefusalOf (visible_size a.members a.limit) (c.args.at + length c.args.into.now / 512) (IsUnreadAround c.backed_up_span-hidden.result c.relied_sector-relied.result c.args.at (c.args.at + length c.args.into.now / 512)) a.members None =
     subst (λ (o : Option Span). IsRefusalOf (visible_size a.members a.limit) (c.args.at + length c.args.into.now / 512) (IsUnreadAround o c.relied_sector-relied.result c.args.at (c.args.at + length c.args.into.now / 512)) a.members None) (sym c.backed_up_span-hidden.ensures)
@@ -183,7 +185,7 @@ returns-in-Some-clause-answered g c =
 
 pub returns-in-Some-clause-caused : goal.returns-in-Some-clause-caused
 returns-in-Some-clause-caused g c =
-    let was = c.moving.invariant in
+    let was = (c.moving.invariant.moves (ap (λ p. is_reshaping p.parts.members.newest) c.moving.view_is ∙ c.requires.active)).1 in
     let a = c.moving.inside in
     let fine : IsRefusalOf (visible_size a.members a.limit) (c.args.at + length c.args.into.now / 512) (IsUnreadAround c.backed_up_span-hidden.result c.relied_sector-relied.result c.args.at (c.args.at + length c.args.into.now / 512)) a.members None =
     subst (λ (o : Option Span). IsRefusalOf (visible_size a.members a.limit) (c.args.at + length c.args.into.now / 512) (IsUnreadAround o c.relied_sector-relied.result c.args.at (c.args.at + length c.args.into.now / 512)) a.members None) (sym c.backed_up_span-hidden.ensures)
@@ -222,7 +224,7 @@ returns-in-Some-clause-caused g c =
 
 pub returns-in-Some-clause-called : goal.returns-in-Some-clause-called
 returns-in-Some-clause-called g c =
-    let was = c.moving.invariant in
+    let was = (c.moving.invariant.moves (ap (λ p. is_reshaping p.parts.members.newest) c.moving.view_is ∙ c.requires.active)).1 in
     let a = c.moving.inside in
     let given = g.B.Bank.given a.bank in
     let scope = scope_in given a.epoch.uuid a.epoch.given (Some a.backup) in
@@ -247,20 +249,25 @@ returns-in-Some-clause-called g c =
     did.keeps.bank.counts (record { uuid = c.append_after_losses.ensures.uuid; given = c.append_after_losses.ensures.given; first = c.append_after_losses.ensures.first; backup = refl; work = refl; ahead = refl; limit = refl }) (λ t. (was.kept.recorded t).begun))
 
 pub returns-in-Some-clause-others : goal.returns-in-Some-clause-others
-returns-in-Some-clause-others g c = subst (λ p. g.B.Bank.tells → AreOthersPresent (present (g.B.Bank.given p.parts.bank) (g.B.Bank.tape p.parts.bank)) (present (g.B.Bank.given p.parts.bank) (g.B.Bank.tape c.read_around_window-fetched.new.bank))) c.moving.view_is c.read_around_window-fetched.ensures.others
+returns-in-Some-clause-others g c =
+    subst (λ p. g.B.Bank.tells → AreOthersPresent (present (g.B.Bank.given p.parts.bank) (g.B.Bank.tape p.parts.bank)) (present (g.B.Bank.given p.parts.bank) (g.B.Bank.tape c.read_around_window-fetched.new.bank))) c.moving.view_is c.read_around_window-fetched.ensures.others
 
 pub returns-clause-others : goal.returns-clause-others
-returns-clause-others g c = subst (λ p. g.B.Bank.tells → AreOthersPresent (present (g.B.Bank.given p.parts.bank) (g.B.Bank.tape p.parts.bank)) (present (g.B.Bank.given p.parts.bank) (g.B.Bank.tape c.read_around_window-fetched.new.bank))) c.moving.view_is c.read_around_window-fetched.ensures.others
+returns-clause-others g c =
+    subst (λ p. g.B.Bank.tells → AreOthersPresent (present (g.B.Bank.given p.parts.bank) (g.B.Bank.tape p.parts.bank)) (present (g.B.Bank.given p.parts.bank) (g.B.Bank.tape c.read_around_window-fetched.new.bank))) c.moving.view_is c.read_around_window-fetched.ensures.others
 
 pub returns-in-Some-clause-failed : goal.returns-in-Some-clause-failed
-returns-in-Some-clause-failed g c = subst (λ p. HaveRolesFailed p.parts.members c.read_around_window-fetched.new.members (g.B.Bank.faults_of p.parts.bank) (g.B.Bank.faults_of c.read_around_window-fetched.new.bank)) c.moving.view_is c.read_around_window-fetched.ensures.keeps.failed.roles
+returns-in-Some-clause-failed g c =
+    subst (λ p. HaveRolesFailed p.parts.members c.read_around_window-fetched.new.members (g.B.Bank.faults_of p.parts.bank) (g.B.Bank.faults_of c.read_around_window-fetched.new.bank)) c.moving.view_is c.read_around_window-fetched.ensures.keeps.failed.roles
 
 pub returns-clause-failed : goal.returns-clause-failed
-returns-clause-failed g c = subst (λ p. HaveRolesFailed p.parts.members c.read_around_window-fetched.new.members (g.B.Bank.faults_of p.parts.bank) (g.B.Bank.faults_of c.read_around_window-fetched.new.bank)) c.moving.view_is c.read_around_window-fetched.ensures.keeps.failed.roles
+returns-clause-failed g c =
+    subst (λ p. HaveRolesFailed p.parts.members c.read_around_window-fetched.new.members (g.B.Bank.faults_of p.parts.bank) (g.B.Bank.faults_of c.read_around_window-fetched.new.bank)) c.moving.view_is c.read_around_window-fetched.ensures.keeps.failed.roles
 
 pub invariant_of-moving-2 : goal.invariant_of-moving-2
 invariant_of-moving-2 g c =
-    let was = c.moving.invariant in
+    goes-on (c.moving.invariant.moves (ap (λ p. is_reshaping p.parts.members.newest) c.moving.view_is ∙ c.requires.active)).0 (
+    let was = (c.moving.invariant.moves (ap (λ p. is_reshaping p.parts.members.newest) c.moving.view_is ∙ c.requires.active)).1 in
     let a = c.moving.inside in
     let steps : 1 ≤ a.steps = subst (λ p. 1 ≤ p.parts.steps) (sym c.moving.view_is) c.requires.room in
     let fine : IsRefusalOf (visible_size a.members a.limit) (c.args.at + length c.args.into.now / 512) (IsUnreadAround c.backed_up_span-hidden.result c.relied_sector-relied.result c.args.at (c.args.at + length c.args.into.now / 512)) a.members None =
@@ -312,11 +319,11 @@ invariant_of-moving-2 g c =
     refl did.keeps.bank.counts (behind-keeps c.args.who end roles spares (Read c.args.at (sectors_of bytes)) (λ n. refl) (λ limit. refl))
     (behind-whole tape' scope a.epoch.first a.epoch.entries.items c.args.who end roles spares (Read c.args.at (sectors_of bytes)) did.keeps.moved (missing-since roles did.keeps.moved since.vacant)) did.keeps.bank.same (scope-same given (Some a.backup) did.keeps.bank.same c.append_after_losses-2.ensures.uuid c.append_after_losses-2.ensures.given) c.append_after_losses-2.ensures.first refl
     (c.append_after_losses-2.ensures.items ∙ ap (λ (b : List Sector). a.epoch.entries.items ++ entries_of c.args.who end (losses_of roles spares ++ Read c.args.at b ∷ [])) (c.from_bytes-body.ensures ∙ ap sectors_of whole))
-    (room-after-49 a.steps a.epoch.entries.room c.append_after_losses-2.new.epoch.entries.room was.room_left c.append_after_losses-2.ensures.room steps))
+    (room-after-49 a.steps a.epoch.entries.room c.append_after_losses-2.new.epoch.entries.room was.room_left c.append_after_losses-2.ensures.room steps)))
 
 pub returns-clause-answered : goal.returns-clause-answered
 returns-clause-answered g c =
-    let was = c.moving.invariant in
+    let was = (c.moving.invariant.moves (ap (λ p. is_reshaping p.parts.members.newest) c.moving.view_is ∙ c.requires.active)).1 in
     let a = c.moving.inside in
     let given = g.B.Bank.given a.bank in
     let scope = scope_in given a.epoch.uuid a.epoch.given (Some a.backup) in
@@ -345,8 +352,9 @@ returns-clause-answered g c =
     number (λ call. (refl, full)) (inside-losses c.args.who end (losses_of roles spares) (losses-are roles spares)) (torn-losses (AsksRead c.args.at count) c.args.who end (losses_of roles spares) (losses-are roles spares)))
 
 pub returns-clause-holds : goal.returns-clause-holds
-returns-clause-holds g c = λ t right i lt.
-    let was = c.moving.invariant in
+returns-clause-holds g c =
+    λ t right i lt.
+    let was = (c.moving.invariant.moves (ap (λ p. is_reshaping p.parts.members.newest) c.moving.view_is ∙ c.requires.active)).1 in
     let a = c.moving.inside in
     let fine : IsRefusalOf (visible_size a.members a.limit) (c.args.at + length c.args.into.now / 512) (IsUnreadAround c.backed_up_span-hidden.result c.relied_sector-relied.result c.args.at (c.args.at + length c.args.into.now / 512)) a.members None =
     subst (λ (o : Option Span). IsRefusalOf (visible_size a.members a.limit) (c.args.at + length c.args.into.now / 512) (IsUnreadAround o c.relied_sector-relied.result c.args.at (c.args.at + length c.args.into.now / 512)) a.members None) (sym c.backed_up_span-hidden.ensures)
@@ -407,7 +415,7 @@ returns-clause-caused g c = c.requires.fine
 
 pub returns-clause-called : goal.returns-clause-called
 returns-clause-called g c =
-    let was = c.moving.invariant in
+    let was = (c.moving.invariant.moves (ap (λ p. is_reshaping p.parts.members.newest) c.moving.view_is ∙ c.requires.active)).1 in
     let a = c.moving.inside in
     let given = g.B.Bank.given a.bank in
     let scope = scope_in given a.epoch.uuid a.epoch.given (Some a.backup) in
@@ -440,26 +448,31 @@ read_around_window-fetched-requires-clause-within g c =
     omega (arith, within, below, same)
 
 pub read_around_window-fetched-requires-clause-into : goal.read_around_window-fetched-requires-clause-into
-read_around_window-fetched-requires-clause-into g c = subst (λ (l : List ℕ). IsWhole l) (sym c.as_mut_slice.ensures.value) (let whole = c.requires.whole in let same = c.requires.same in omega (arith, whole, same))
+read_around_window-fetched-requires-clause-into g c =
+    subst (λ (l : List ℕ). IsWhole l) (sym c.as_mut_slice.ensures.value) (let whole = c.requires.whole in let same = c.requires.same in omega (arith, whole, same))
 
 -- ---- by what stands above
 
 pub read_around_window-fetched-requires-clause-stands : goal.read_around_window-fetched-requires-clause-stands
-read_around_window-fetched-requires-clause-stands g c = record {
-  slots = c.moving.invariant.kept.slots;
-  placed = c.moving.invariant.kept.members_are.placed;
-  unlost = c.moving.invariant.kept.members_are.unlost;
-  free = c.moving.invariant.kept.members_are.free;
+read_around_window-fetched-requires-clause-stands g c =
+    record {
+  slots = (alike c.moving.invariant).kept.slots;
+  placed = (alike c.moving.invariant).kept.members_are.placed;
+  unlost = (alike c.moving.invariant).kept.members_are.unlost;
+  free = (alike c.moving.invariant).kept.members_are.free;
 }
 
 pub append_after_losses-requires-clause-room : goal.append_after_losses-requires-clause-room
-append_after_losses-requires-clause-room g c = room-49 c.moving.inside.steps c.moving.inside.epoch.entries.room (subst (λ p. 1 ≤ p.parts.steps) (sym c.moving.view_is) c.requires.room) c.moving.invariant.room_left
+append_after_losses-requires-clause-room g c =
+    room-49 c.moving.inside.steps c.moving.inside.epoch.entries.room (subst (λ p. 1 ≤ p.parts.steps) (sym c.moving.view_is) c.requires.room) (alike c.moving.invariant).room_left
 
 pub append_after_losses-requires-2-clause-room : goal.append_after_losses-requires-2-clause-room
-append_after_losses-requires-2-clause-room g c = room-49 c.moving.inside.steps c.moving.inside.epoch.entries.room (subst (λ p. 1 ≤ p.parts.steps) (sym c.moving.view_is) c.requires.room) c.moving.invariant.room_left
+append_after_losses-requires-2-clause-room g c =
+    room-49 c.moving.inside.steps c.moving.inside.epoch.entries.room (subst (λ p. 1 ≤ p.parts.steps) (sym c.moving.view_is) c.requires.room) (alike c.moving.invariant).room_left
 
 pub newly_unassigned-roles-requires-clause-known : goal.newly_unassigned-roles-requires-clause-known
-newly_unassigned-roles-requires-clause-known g c = known-moved c.len-count.result c.read_around_window-fetched.ensures.keeps.moved c.len-count.ensures c.moving.invariant.kept.members_are.placed.roles
+newly_unassigned-roles-requires-clause-known g c =
+    known-moved c.len-count.result c.read_around_window-fetched.ensures.keeps.moved c.len-count.ensures (alike c.moving.invariant).kept.members_are.placed.roles
 
 pub unassigned_roles-before-requires-clause-known : goal.unassigned_roles-before-requires-clause-known
 unassigned_roles-before-requires-clause-known g c = le-same _ _ c.len-count.ensures
@@ -489,10 +502,11 @@ pub append_after_losses-requires-2-clause-number : goal.append_after_losses-requ
 append_after_losses-requires-2-clause-number g c = c.check_number.ensures
 
 pub read_around_window-fetched-requires-clause-scratch : goal.read_around_window-fetched-requires-clause-scratch
-read_around_window-fetched-requires-clause-scratch g c = scratch-of _ _ c.as_mut_slice-2.ensures.value c.moving.invariant.buffer_fits
+read_around_window-fetched-requires-clause-scratch g c = scratch-of _ _ c.as_mut_slice-2.ensures.value (alike c.moving.invariant).buffer_fits
 
 pub slice_bounds-read_around_window-end : goal.slice_bounds-read_around_window-end
-slice_bounds-read_around_window-end g c = sym (length-take-le c.bytes_of-wide.result c.as_slice.result.now (within-same _ _ _ _ c.bytes_of-wide.ensures.within (c.len.ensures ∙ c.moving.inside.window.ok.0) c.as_slice.ensures.value))
+slice_bounds-read_around_window-end g c =
+    sym (length-take-le c.bytes_of-wide.result c.as_slice.result.now (within-same _ _ _ _ c.bytes_of-wide.ensures.within (c.len.ensures ∙ c.moving.inside.window.ok.0) c.as_slice.ensures.value))
 
 pub from_bytes-body-requires : goal.from_bytes-body-requires
 from_bytes-body-requires g c =
@@ -507,3 +521,9 @@ copy_from_slice-requires g c =
     let filled : length bytes ≡ length c.as_mut_slice.result.now = c.read_around_window-fetched.auto.into in
     let whole = written-whole c.args.bytes.len c.args.bytes.items bytes (filled ∙ ap (λ (l : List ℕ). length l) c.as_mut_slice.ensures.value) c.args.bytes.ok.0 in
     sym (ap (λ (l : List ℕ). length l) (c.as_slice-2.ensures.value ∙ whole) ∙ filled ∙ ap (λ (l : List ℕ). length l) c.as_mut_slice.ensures.value ∙ c.requires.same)
+
+pub returns-in-Some-clause-active : goal.returns-in-Some-clause-active
+returns-in-Some-clause-active g c = c.read_around_window-fetched.ensures.keeps.moved.reshape.reshaping ∙ (ap (λ p. is_reshaping p.parts.members.newest) c.moving.view_is ∙ c.requires.active)
+
+pub returns-clause-active : goal.returns-clause-active
+returns-clause-active g c = c.read_around_window-fetched.ensures.keeps.moved.reshape.reshaping ∙ (ap (λ p. is_reshaping p.parts.members.newest) c.moving.view_is ∙ c.requires.active)

@@ -1,7 +1,7 @@
 use Rattle.std.proofs.Common.{inl, ◌≤◌, ◌+◌, ℕ, Option, [], ◌∷◌, Some, refl, sym, subst, arith, ◌∙◌, ap}
 use Rattle.array_reshaping_steps.specs.raid_types_the_Refusal.{Refusal}
 use Rattle.array_reshaping_steps.specs.raid_types_the_Span.{Span}
-use Rattle.array_reshaping_steps.specs.sb_specs_Reading.{list_length}
+use Rattle.array_reshaping_steps.specs.sb_specs_Reading.{list_length, is_reshaping}
 use Rattle.array_reshaping_steps.specs.history_the_Event_TheVariants.{Refused}
 use Rattle.array_reshaping_steps.specs.history_Plain.{entries_of}
 use Rattle.array_reshaping_steps.specs.array_members_Numbers.{bears}
@@ -24,13 +24,15 @@ use Rattle.array_reshaping_steps.proofs.array_reshaping_laws_WriteLaws.{first-ri
 use Rattle.array_reshaping_steps.proofs.array_reshaping_laws_FirstLaws.{first-told, first-none}
 use Rattle.array_reshaping_steps.proofs.array_reshaping_Calls.{one-less}
 use Rattle.array_reshaping_steps.proofs.array_specs_Lengths.{alone-keeps}
+use Rattle.array_reshaping_steps.proofs.array_type_Alike.{alike, goes-on}
 use Rattle.array_reshaping_io.proofs.writing.finish_for.Goals as goal
 
 -- ---- refused before the window is finished
 
 pub invariant_of-moving : goal.invariant_of-moving
 invariant_of-moving g c =
-    let was = c.moving.invariant in
+    goes-on (c.moving.invariant.moves (ap (λ p. is_reshaping p.parts.members.newest) c.moving.view_is ∙ c.requires.active)).0 (
+    let was = (c.moving.invariant.moves (ap (λ p. is_reshaping p.parts.members.newest) c.moving.view_is ∙ c.requires.active)).1 in
     let a = c.moving.inside in
     let given = g.B.Bank.given a.bank in
     let scope = scope_in given a.epoch.uuid a.epoch.given (Some a.backup) in
@@ -45,7 +47,7 @@ invariant_of-moving g c =
     (λ t right. first-right was.kept was.limited c.open_span-window.result c.relied_sector-relied.result c.args.at to refusal c.relied_sector-relied.ensures.value c.in-Some.ensures.why t right) in
     ready (entries_of c.args.who end (Refused refusal ∷ [])) was (grows-none (λ t. refl)) (shapes-same a.members.newest) kept
     refl (λ slot. omega arith) (alone-keeps c.args.who end (Refused refusal) (λ n. refl) (λ limit. refl)) (λ none whole. whole) refl (scope-same given (Some a.backup) refl c.append_entry.ensures.uuid c.append_entry.ensures.given) c.append_entry.ensures.first refl c.append_entry.ensures.items
-    (let had = was.room_left in let room = c.append_entry.ensures.room in omega (arith, room, had, steps))
+    (let had = was.room_left in let room = c.append_entry.ensures.room in omega (arith, room, had, steps)))
 
 pub returns-in-Some-clause-entered : goal.returns-in-Some-clause-entered
 returns-in-Some-clause-entered g c =
@@ -53,7 +55,7 @@ returns-in-Some-clause-entered g c =
 
 pub returns-in-Some-clause-called : goal.returns-in-Some-clause-called
 returns-in-Some-clause-called g c =
-    let was = c.moving.invariant in
+    let was = (alike c.moving.invariant) in
     let a = c.moving.inside in
     let given = g.B.Bank.given a.bank in
     let faults = g.B.Bank.faults_of a.bank in
@@ -109,7 +111,14 @@ pub overflow_sub-moving : goal.overflow_sub-moving
 overflow_sub-moving g c = subst (λ p. 1 ≤ p.parts.steps) (sym c.moving.view_is) c.requires.room
 
 pub returns-in-Some-clause-room : goal.returns-in-Some-clause-room
-returns-in-Some-clause-room g c = one-less c.moving.inside.steps (subst (λ p. 1 ≤ p.parts.steps) (sym c.moving.view_is) c.requires.room) ∙ ap (λ p. p.parts.steps) c.moving.view_is
+returns-in-Some-clause-room g c =
+    one-less c.moving.inside.steps (subst (λ p. 1 ≤ p.parts.steps) (sym c.moving.view_is) c.requires.room) ∙ ap (λ p. p.parts.steps) c.moving.view_is
 
 pub append_entry-requires-clause-number : goal.append_entry-requires-clause-number
 append_entry-requires-clause-number g c = c.check_going.ensures
+
+pub returns-in-Some-clause-active : goal.returns-in-Some-clause-active
+returns-in-Some-clause-active g c = (ap (λ p. is_reshaping p.parts.members.newest) c.moving.view_is ∙ c.requires.active)
+
+pub returns-clause-active : goal.returns-clause-active
+returns-clause-active g c = c.finish_open.ensures.active

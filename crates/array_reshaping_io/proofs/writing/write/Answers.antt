@@ -27,7 +27,8 @@ returns-then-meets-clause-closed g c = err-ok _ c.bar_write.result c.bar_write.e
 -- ---- none does
 
 pub write_sure-requires-clause-sure : goal.write_sure-requires-clause-sure
-write_sure-requires-clause-sure g c = λ x low high.
+write_sure-requires-clause-sure g c =
+    λ x low high.
     subst (λ p. covers (unsure_in p.course.window) x ≡ false) c.moving.view_is (subst (λ (s : Option Span). covers s x ≡ false) c.uncertain_span.ensures (c.meets.ensures.no c.if-meets.false x low high))
 
 pub returns-clause-caused : goal.returns-clause-caused
@@ -50,8 +51,15 @@ returns-clause-answered g c =
     old.parts.members new.parts.members c.write_sure.result c.write_sure.ensures.caused c.write_sure.ensures.answered
 
 pub returns-clause-backup : goal.returns-clause-backup
-returns-clause-backup g c = λ is.
+returns-clause-backup g c =
+    λ is.
     let old = c.args.moving.now in
     let to = c.args.at + length c.args.from.now / 512 in
     sure-never old.course.window (visible_in old) (relied_sector old.parts.members.newest old.parts.work.resync) c.args.at to old.parts.members c.write_sure.new.moving.parts.members c.write_sure.result
     c.write_sure.ensures.caused is
+
+pub returns-then-meets-clause-active : goal.returns-then-meets-clause-active
+returns-then-meets-clause-active g c = c.requires.active
+
+pub returns-clause-active : goal.returns-clause-active
+returns-clause-active g c = c.write_sure.ensures.active

@@ -1,7 +1,7 @@
 use Rattle.std.proofs.Common.{inl, ◌≡◌, ◌≤◌, ◌<◌, ◌+◌, ◌/◌, ℕ, false, List, [], ◌∷◌, ◌++◌, length, Some, refl, sym, ◌∙◌, ap, subst, arith}
 use Rattle.array_reshaping_steps.specs.raid_types_Sectors.{Sector, sectors_of}
 use Rattle.array_reshaping_steps.specs.raid_types_the_Refusal.{Refusal}
-use Rattle.array_reshaping_steps.specs.sb_specs_Reading.{list_length}
+use Rattle.array_reshaping_steps.specs.sb_specs_Reading.{list_length, is_reshaping}
 use Rattle.array_reshaping_steps.proofs.sb_specs_ValidFields.{few-roles}
 use Rattle.array_reshaping_steps.specs.stripe_row_Rows.{reading_of, present}
 use Rattle.array_reshaping_steps.specs.history_the_Event.{Event}
@@ -39,13 +39,15 @@ use Rattle.array_reshaping_steps.proofs.array_reshaping_laws_WriteLaws.{first-ri
 use Rattle.array_reshaping_steps.proofs.array_reshaping_laws_FirstLaws.{first-told, first-none}
 use Rattle.array_reshaping_steps.proofs.array_reshaping_Calls.{room-49, room-50, known-moved, le-same, never-falls, room-after-1, room-after-49, room-after-50, called-over}
 use Rattle.array_reshaping_steps.proofs.array_specs_Lengths.{alone-keeps, failure-keeps}
+use Rattle.array_reshaping_steps.proofs.array_type_Alike.{alike, goes-on}
 use Rattle.array_reshaping_io.proofs.writing.write_beside.Goals as goal
 
 -- ---- refused before any row is read
 
 pub invariant_of-moving : goal.invariant_of-moving
 invariant_of-moving g c =
-    let was = c.moving.invariant in
+    goes-on (c.moving.invariant.moves (ap (λ p. is_reshaping p.parts.members.newest) c.moving.view_is ∙ c.requires.active)).0 (
+    let was = (c.moving.invariant.moves (ap (λ p. is_reshaping p.parts.members.newest) c.moving.view_is ∙ c.requires.active)).1 in
     let a = c.moving.inside in
     let given = g.B.Bank.given a.bank in
     let scope = scope_in given a.epoch.uuid a.epoch.given (Some a.backup) in
@@ -60,7 +62,7 @@ invariant_of-moving g c =
     (λ t right. first-right was.kept was.limited c.args.past c.relied_sector-relied.result c.args.at to refusal c.relied_sector-relied.ensures.value c.in-Some.ensures.why t right) in
     ready (entries_of c.args.who end (Refused refusal ∷ [])) was (grows-none (λ t. refl)) (shapes-same a.members.newest) kept
     refl (never-falls _) (alone-keeps c.args.who end (Refused refusal) (λ n. refl) (λ limit. refl)) (λ none whole. whole) refl (scope-same given (Some a.backup) refl c.append_entry.ensures.uuid c.append_entry.ensures.given) c.append_entry.ensures.first refl c.append_entry.ensures.items
-    (room-after-1 a.steps a.epoch.entries.room c.append_entry.new.epoch.entries.room was.room_left c.append_entry.ensures.room steps)
+    (room-after-1 a.steps a.epoch.entries.room c.append_entry.new.epoch.entries.room was.room_left c.append_entry.ensures.room steps))
 
 pub returns-in-Some-clause-entered : goal.returns-in-Some-clause-entered
 returns-in-Some-clause-entered g c =
@@ -70,7 +72,7 @@ returns-in-Some-clause-entered g c =
 
 pub returns-in-Some-clause-called : goal.returns-in-Some-clause-called
 returns-in-Some-clause-called g c =
-    let was = c.moving.invariant in
+    let was = (alike c.moving.invariant) in
     let a = c.moving.inside in
     let given = g.B.Bank.given a.bank in
     let faults = g.B.Bank.faults_of a.bank in
@@ -93,7 +95,7 @@ returns-in-Some-clause-caused g c =
 
 pub overflow_cast-count : goal.overflow_cast-count
 overflow_cast-count g c =
-    let members = c.moving.invariant.kept.members_are in
+    let members = (c.moving.invariant.moves (ap (λ p. is_reshaping p.parts.members.newest) c.moving.view_is ∙ c.requires.active)).1.kept.members_are in
     let few = few-roles c.moving.inside.members.newest members.placed.fit.valid in
     let roles = members.backed.roles in
     let long = c.len-count.ensures in
@@ -101,7 +103,7 @@ overflow_cast-count g c =
 
 pub unassigned_roles-before-requires-clause-few : goal.unassigned_roles-before-requires-clause-few
 unassigned_roles-before-requires-clause-few g c =
-    let members = c.moving.invariant.kept.members_are in
+    let members = (c.moving.invariant.moves (ap (λ p. is_reshaping p.parts.members.newest) c.moving.view_is ∙ c.requires.active)).1.kept.members_are in
     let few = few-roles c.moving.inside.members.newest members.placed.fit.valid in
     let roles = members.backed.roles in
     let long = c.len-count.ensures in
@@ -109,7 +111,7 @@ unassigned_roles-before-requires-clause-few g c =
 
 pub newly_unassigned-roles-requires-clause-few : goal.newly_unassigned-roles-requires-clause-few
 newly_unassigned-roles-requires-clause-few g c =
-    let members = c.moving.invariant.kept.members_are in
+    let members = (c.moving.invariant.moves (ap (λ p. is_reshaping p.parts.members.newest) c.moving.view_is ∙ c.requires.active)).1.kept.members_are in
     let few = few-roles c.moving.inside.members.newest members.placed.fit.valid in
     let roles = members.backed.roles in
     let long = c.len-count.ensures in
@@ -125,7 +127,8 @@ write_list-done-requires-clause-within g c =
 
 pub invariant_of-moving-in-Some-refusal : goal.invariant_of-moving-in-Some-refusal
 invariant_of-moving-in-Some-refusal g c =
-    let was = c.moving.invariant in
+    goes-on (c.moving.invariant.moves (ap (λ p. is_reshaping p.parts.members.newest) c.moving.view_is ∙ c.requires.active)).0 (
+    let was = (c.moving.invariant.moves (ap (λ p. is_reshaping p.parts.members.newest) c.moving.view_is ∙ c.requires.active)).1 in
     let here = was.kept.members_are in
     let a = c.moving.inside in
     let given = g.B.Bank.given a.bank in
@@ -177,7 +180,7 @@ invariant_of-moving-in-Some-refusal g c =
     refl did.keeps.bank.counts (failure-keeps c.args.who end roles spares begun at (sectors_of from) refusal)
     (failure-whole tape' scope a.epoch.first a.epoch.entries.items c.args.who end roles spares begun at (sectors_of from) refusal did.keeps.moved (missing-since roles did.keeps.moved since.vacant)) did.keeps.bank.same (scope-same given (Some a.backup) did.keeps.bank.same c.append_failure.ensures.uuid c.append_failure.ensures.given) c.append_failure.ensures.first refl
     (c.append_failure.ensures.items ∙ ap (λ (b : List Sector). a.epoch.entries.items ++ entries_of c.args.who end (failure_events roles spares begun at b refusal)) c.requires.body)
-    (room-after-50 a.steps a.epoch.entries.room c.append_failure.new.epoch.entries.room was.room_left c.append_failure.ensures.room steps))
+    (room-after-50 a.steps a.epoch.entries.room c.append_failure.new.epoch.entries.room was.room_left c.append_failure.ensures.room steps)))
 
 pub returns-in-Some-refusal-clause-entered : goal.returns-in-Some-refusal-clause-entered
 returns-in-Some-refusal-clause-entered g c =
@@ -196,7 +199,7 @@ returns-in-Some-refusal-clause-entered g c =
 
 pub returns-in-Some-refusal-clause-called : goal.returns-in-Some-refusal-clause-called
 returns-in-Some-refusal-clause-called g c =
-    let was = c.moving.invariant in
+    let was = (c.moving.invariant.moves (ap (λ p. is_reshaping p.parts.members.newest) c.moving.view_is ∙ c.requires.active)).1 in
     let here = was.kept.members_are in
     let a = c.moving.inside in
     let given = g.B.Bank.given a.bank in
@@ -239,7 +242,8 @@ returns-in-Some-refusal-clause-left g c =
 
 pub invariant_of-moving-2 : goal.invariant_of-moving-2
 invariant_of-moving-2 g c =
-    let was = c.moving.invariant in
+    goes-on (c.moving.invariant.moves (ap (λ p. is_reshaping p.parts.members.newest) c.moving.view_is ∙ c.requires.active)).0 (
+    let was = (c.moving.invariant.moves (ap (λ p. is_reshaping p.parts.members.newest) c.moving.view_is ∙ c.requires.active)).1 in
     let here = was.kept.members_are in
     let a = c.moving.inside in
     let given = g.B.Bank.given a.bank in
@@ -286,7 +290,7 @@ invariant_of-moving-2 g c =
     refl did.keeps.bank.counts (behind-keeps c.args.who end roles spares (Wrote at (sectors_of from)) (λ n. refl) (λ limit. refl))
     (behind-whole tape' scope a.epoch.first a.epoch.entries.items c.args.who end roles spares (Wrote at (sectors_of from)) did.keeps.moved (missing-since roles did.keeps.moved since.vacant)) did.keeps.bank.same (scope-same given (Some a.backup) did.keeps.bank.same c.append_after_losses.ensures.uuid c.append_after_losses.ensures.given) c.append_after_losses.ensures.first refl
     (c.append_after_losses.ensures.items ∙ ap (λ (b : List Sector). a.epoch.entries.items ++ entries_of c.args.who end (losses_of roles spares ++ Wrote at b ∷ [])) c.requires.body)
-    (room-after-49 a.steps a.epoch.entries.room c.append_after_losses.new.epoch.entries.room was.room_left c.append_after_losses.ensures.room steps))
+    (room-after-49 a.steps a.epoch.entries.room c.append_after_losses.new.epoch.entries.room was.room_left c.append_after_losses.ensures.room steps)))
 
 pub returns-clause-entered : goal.returns-clause-entered
 returns-clause-entered g c =
@@ -303,7 +307,7 @@ returns-clause-entered g c =
 
 pub returns-clause-called : goal.returns-clause-called
 returns-clause-called g c =
-    let was = c.moving.invariant in
+    let was = (c.moving.invariant.moves (ap (λ p. is_reshaping p.parts.members.newest) c.moving.view_is ∙ c.requires.active)).1 in
     let here = was.kept.members_are in
     let a = c.moving.inside in
     let given = g.B.Bank.given a.bank in
@@ -347,10 +351,12 @@ pub returns-in-Some-clause-failed : goal.returns-in-Some-clause-failed
 returns-in-Some-clause-failed g c = rw (← c.moving.view_is) (λ role slot held. inl held)
 
 pub returns-in-Some-refusal-clause-failed : goal.returns-in-Some-refusal-clause-failed
-returns-in-Some-refusal-clause-failed g c = subst (λ p. HaveRolesFailed p.parts.members c.write_list-done.new.members (g.B.Bank.faults_of p.parts.bank) (g.B.Bank.faults_of c.write_list-done.new.bank)) c.moving.view_is c.write_list-done.ensures.keeps.failed.roles
+returns-in-Some-refusal-clause-failed g c =
+    subst (λ p. HaveRolesFailed p.parts.members c.write_list-done.new.members (g.B.Bank.faults_of p.parts.bank) (g.B.Bank.faults_of c.write_list-done.new.bank)) c.moving.view_is c.write_list-done.ensures.keeps.failed.roles
 
 pub returns-clause-failed : goal.returns-clause-failed
-returns-clause-failed g c = subst (λ p. HaveRolesFailed p.parts.members c.write_list-done.new.members (g.B.Bank.faults_of p.parts.bank) (g.B.Bank.faults_of c.write_list-done.new.bank)) c.moving.view_is c.write_list-done.ensures.keeps.failed.roles
+returns-clause-failed g c =
+    subst (λ p. HaveRolesFailed p.parts.members c.write_list-done.new.members (g.B.Bank.faults_of p.parts.bank) (g.B.Bank.faults_of c.write_list-done.new.bank)) c.moving.view_is c.write_list-done.ensures.keeps.failed.roles
 
 -- ---- which refusal is the first
 
@@ -366,24 +372,25 @@ returns-clause-first g c = rw (← c.moving.view_is) (first-none _ _ c.in_defaul
 -- ---- by what stands above
 
 pub write_list-done-requires-clause-stands : goal.write_list-done-requires-clause-stands
-write_list-done-requires-clause-stands g c = record {
-  slots = c.moving.invariant.kept.slots;
-  placed = c.moving.invariant.kept.members_are.placed;
-  unlost = c.moving.invariant.kept.members_are.unlost;
-  free = c.moving.invariant.kept.members_are.free;
+write_list-done-requires-clause-stands g c =
+    record {
+  slots = (alike c.moving.invariant).kept.slots;
+  placed = (alike c.moving.invariant).kept.members_are.placed;
+  unlost = (alike c.moving.invariant).kept.members_are.unlost;
+  free = (alike c.moving.invariant).kept.members_are.free;
 }
 
 pub write_list-done-requires-clause-rows : goal.write_list-done-requires-clause-rows
-write_list-done-requires-clause-rows g c = c.moving.invariant.rows_fit
+write_list-done-requires-clause-rows g c = (alike c.moving.invariant).rows_fit
 
 pub write_list-done-requires-clause-far_rows : goal.write_list-done-requires-clause-far_rows
-write_list-done-requires-clause-far_rows g c = c.moving.invariant.far_rows_fit
+write_list-done-requires-clause-far_rows g c = (alike c.moving.invariant).far_rows_fit
 
 pub write_list-done-requires-clause-buffer : goal.write_list-done-requires-clause-buffer
-write_list-done-requires-clause-buffer g c = c.moving.invariant.buffer_fits
+write_list-done-requires-clause-buffer g c = (alike c.moving.invariant).buffer_fits
 
 pub write_list-done-requires-clause-far_buffer : goal.write_list-done-requires-clause-far_buffer
-write_list-done-requires-clause-far_buffer g c = c.moving.invariant.far_buffer_fits
+write_list-done-requires-clause-far_buffer g c = (alike c.moving.invariant).far_buffer_fits
 
 pub write_list-done-requires-clause-from : goal.write_list-done-requires-clause-from
 write_list-done-requires-clause-from g c = c.requires.whole
@@ -395,13 +402,16 @@ pub write_list-done-requires-clause-few : goal.write_list-done-requires-clause-f
 write_list-done-requires-clause-few g c = c.requires.few
 
 pub append_after_losses-requires-clause-room : goal.append_after_losses-requires-clause-room
-append_after_losses-requires-clause-room g c = room-49 c.moving.inside.steps c.moving.inside.epoch.entries.room (subst (λ p. 1 ≤ p.parts.steps) (sym c.moving.view_is) c.requires.room) c.moving.invariant.room_left
+append_after_losses-requires-clause-room g c =
+    room-49 c.moving.inside.steps c.moving.inside.epoch.entries.room (subst (λ p. 1 ≤ p.parts.steps) (sym c.moving.view_is) c.requires.room) (alike c.moving.invariant).room_left
 
 pub append_failure-requires-clause-room : goal.append_failure-requires-clause-room
-append_failure-requires-clause-room g c = room-50 c.moving.inside.steps c.moving.inside.epoch.entries.room (subst (λ p. 1 ≤ p.parts.steps) (sym c.moving.view_is) c.requires.room) c.moving.invariant.room_left
+append_failure-requires-clause-room g c =
+    room-50 c.moving.inside.steps c.moving.inside.epoch.entries.room (subst (λ p. 1 ≤ p.parts.steps) (sym c.moving.view_is) c.requires.room) (alike c.moving.invariant).room_left
 
 pub newly_unassigned-roles-requires-clause-known : goal.newly_unassigned-roles-requires-clause-known
-newly_unassigned-roles-requires-clause-known g c = known-moved c.len-count.result c.write_list-done.ensures.keeps.moved c.len-count.ensures c.moving.invariant.kept.members_are.placed.roles
+newly_unassigned-roles-requires-clause-known g c =
+    known-moved c.len-count.result c.write_list-done.ensures.keeps.moved c.len-count.ensures (alike c.moving.invariant).kept.members_are.placed.roles
 
 pub unassigned_roles-before-requires-clause-known : goal.unassigned_roles-before-requires-clause-known
 unassigned_roles-before-requires-clause-known g c = le-same _ _ c.len-count.ensures
@@ -440,4 +450,13 @@ pub append_failure-requires-clause-number : goal.append_failure-requires-clause-
 append_failure-requires-clause-number g c = c.check_going.ensures
 
 pub unwritten_here-requires-clause-roles : goal.unwritten_here-requires-clause-roles
-unwritten_here-requires-clause-roles g c = c.moving.invariant.kept.members_are.placed.roles
+unwritten_here-requires-clause-roles g c = (alike c.moving.invariant).kept.members_are.placed.roles
+
+pub returns-in-Some-clause-active : goal.returns-in-Some-clause-active
+returns-in-Some-clause-active g c = (ap (λ p. is_reshaping p.parts.members.newest) c.moving.view_is ∙ c.requires.active)
+
+pub returns-in-Some-refusal-clause-active : goal.returns-in-Some-refusal-clause-active
+returns-in-Some-refusal-clause-active g c = c.write_list-done.ensures.keeps.moved.reshape.reshaping ∙ (ap (λ p. is_reshaping p.parts.members.newest) c.moving.view_is ∙ c.requires.active)
+
+pub returns-clause-active : goal.returns-clause-active
+returns-clause-active g c = c.write_list-done.ensures.keeps.moved.reshape.reshaping ∙ (ap (λ p. is_reshaping p.parts.members.newest) c.moving.view_is ∙ c.requires.active)

@@ -3,7 +3,7 @@ use Rattle.std.proofs.lemmas.List.Elements.{All-nil}
 use Rattle.array_reshaping_steps.specs.raid_types_Sectors.{sectors_of, Sector}
 use Rattle.array_reshaping_steps.proofs.raid_types_SectorLaws.{length-sectors_of}
 use Rattle.array_reshaping_steps.specs.raid_types_the_Span.{Span}
-use Rattle.array_reshaping_steps.specs.sb_specs_Reading.{list_length}
+use Rattle.array_reshaping_steps.specs.sb_specs_Reading.{list_length, is_reshaping}
 use Rattle.array_reshaping_steps.specs.stripe_row_Rows.{present}
 use Rattle.array_reshaping_steps.specs.history_the_Entry.{Entry}
 use Rattle.array_reshaping_steps.specs.history_the_Event_TheVariants.{Step}
@@ -34,16 +34,18 @@ use Rattle.array_reshaping_steps.specs.raid_types_the_Fault.{Fault}
 use Rattle.array_reshaping_steps.specs.raid_types_the_Who.{Who}
 use Rattle.array_reshaping_steps.specs.history_the_StepKind.{StepKind}
 use Rattle.array_reshaping_steps.proofs.array_reshaping_StepLaws.{unchanged-roomed}
+use Rattle.array_reshaping_steps.proofs.array_type_Alike.{alike, goes-on}
 use Rattle.array_reshaping_io.proofs.writing.write_sure.Goals as goal
 
 -- ---- memory is short
 
 pub invariant_of-moving : goal.invariant_of-moving
-invariant_of-moving g c = roomier c.moving.invariant c.make_room.ensures.items c.make_room.ensures.keeps
+invariant_of-moving g c =
+    goes-on (c.moving.invariant.moves (ap (λ p. is_reshaping p.parts.members.newest) c.moving.view_is ∙ c.requires.active)).0 (roomier (c.moving.invariant.moves (ap (λ p. is_reshaping p.parts.members.newest) c.moving.view_is ∙ c.requires.active)).1 c.make_room.ensures.items c.make_room.ensures.keeps)
 
 pub returns-in-Err-make_room-clause-called : goal.returns-in-Err-make_room-clause-called
 returns-in-Err-make_room-clause-called g c =
-    let was = c.moving.invariant in
+    let was = (alike c.moving.invariant) in
     let a = c.moving.inside in
     let given = g.B.Bank.given a.bank in
     let faults = g.B.Bank.faults_of a.bank in
@@ -57,10 +59,12 @@ returns-in-Err-make_room-clause-called g c =
 -- ---- it doesn't touch the window
 
 pub invariant_of-moving-then-not-meets : goal.invariant_of-moving-then-not-meets
-invariant_of-moving-then-not-meets g c = roomed c.make_room.ensures.items (let room = c.in-Ok-make_room.ensures.ok in omega (arith, room)) c.moving.invariant
+invariant_of-moving-then-not-meets g c =
+    goes-on (c.moving.invariant.moves (ap (λ p. is_reshaping p.parts.members.newest) c.moving.view_is ∙ c.requires.active)).0 (roomed c.make_room.ensures.items (let room = c.in-Ok-make_room.ensures.ok in omega (arith, room)) (c.moving.invariant.moves (ap (λ p. is_reshaping p.parts.members.newest) c.moving.view_is ∙ c.requires.active)).1)
 
 pub write_beside-requires-clause-beside : goal.write_beside-requires-clause-beside
-write_beside-requires-clause-beside g c = λ x low high.
+write_beside-requires-clause-beside g c =
+    λ x low high.
     let a = c.moving.inside in
     let to = c.args.at + length c.args.from.now / 512 in
     let sure = subst (λ p. (x : ℕ) → c.args.at ≤ x → x < to → covers (unsure_in p.course.window) x ≡ false) (sym c.moving.view_is) c.requires.sure in
@@ -80,7 +84,8 @@ returns-then-not-meets-clause-entered g c =
     c.make_room.ensures.items (untouched a.course.window c.args.at to out) c.write_beside.ensures.entered)
 
 pub returns-then-not-meets-clause-called : goal.returns-then-not-meets-clause-called
-returns-then-not-meets-clause-called g c = rw (← c.moving.view_is) (called-roomed _ c.write_beside.new.moving _ 2 c.make_room.ensures.items c.write_beside.ensures.called)
+returns-then-not-meets-clause-called g c =
+    rw (← c.moving.view_is) (called-roomed _ c.write_beside.new.moving _ 2 c.make_room.ensures.items c.write_beside.ensures.called)
 
 pub returns-then-not-meets-clause-caused : goal.returns-then-not-meets-clause-caused
 returns-then-not-meets-clause-caused g c =
@@ -101,12 +106,13 @@ returns-then-not-meets-clause-closed g c =
 -- ---- the window is to be finished
 
 pub invariant_of-moving-else-not-meets : goal.invariant_of-moving-else-not-meets
-invariant_of-moving-else-not-meets g c = roomed c.make_room.ensures.items (let room = c.in-Ok-make_room.ensures.ok in omega (arith, room)) c.moving.invariant
+invariant_of-moving-else-not-meets g c =
+    goes-on (c.moving.invariant.moves (ap (λ p. is_reshaping p.parts.members.newest) c.moving.view_is ∙ c.requires.active)).0 (roomed c.make_room.ensures.items (let room = c.in-Ok-make_room.ensures.ok in omega (arith, room)) (c.moving.invariant.moves (ap (λ p. is_reshaping p.parts.members.newest) c.moving.view_is ∙ c.requires.active)).1)
 
 pub finish_for-requires-clause-due : goal.finish_for-requires-clause-due
 finish_for-requires-clause-due g c =
     let met = c.meets.ensures.yes c.if-not-meets.false in
-    touched-open _ c.moving.invariant.kept.course_is met.0 (subst (λ (s : Option Span). covers s met.0 ≡ true) c.open_span-window.ensures met.3)
+    touched-open _ (c.moving.invariant.moves (ap (λ p. is_reshaping p.parts.members.newest) c.moving.view_is ∙ c.requires.active)).1.kept.course_is met.0 (subst (λ (s : Option Span). covers s met.0 ≡ true) c.open_span-window.ensures met.3)
 
 pub write_beside-requires-2-clause-stood : goal.write_beside-requires-2-clause-stood
 write_beside-requires-2-clause-stood g c =
@@ -125,7 +131,8 @@ returns-in-Err-finish_for-clause-entered g c =
     (left_in new.parts.work new.parts.members new.course new.ahead) c.in-Err-finish_for.fault c.make_room.ensures.items c.in-Err-finish_for.ensures.entered)
 
 pub returns-in-Err-finish_for-clause-called : goal.returns-in-Err-finish_for-clause-called
-returns-in-Err-finish_for-clause-called g c = rw (← c.moving.view_is) (called-roomed _ c.finish_for.new.moving _ 2 c.make_room.ensures.items c.in-Err-finish_for.ensures.called)
+returns-in-Err-finish_for-clause-called g c =
+    rw (← c.moving.view_is) (called-roomed _ c.finish_for.new.moving _ 2 c.make_room.ensures.items c.in-Err-finish_for.ensures.called)
 
 pub returns-in-Err-finish_for-clause-caused : goal.returns-in-Err-finish_for-clause-caused
 returns-in-Err-finish_for-clause-caused g c =
@@ -197,8 +204,8 @@ returns-then-not-meets-clause-answered g c =
     let new = c.write_beside.new.moving in
     let at = c.args.at in
     let long = length-sectors_of c.args.from.now in
-    let sized = subst (λ p. length_of (list_length p.parts.members.newest) p.parts.entries ≡ list_length p.parts.members.newest) c.moving.view_is c.moving.invariant.sized in
-    let limited = subst (λ p. limit_of p.parts.entries ≡ p.limit) c.moving.view_is c.moving.invariant.limited in
+    let sized = subst (λ p. length_of (list_length p.parts.members.newest) p.parts.entries ≡ list_length p.parts.members.newest) c.moving.view_is (alike c.moving.invariant).sized in
+    let limited = subst (λ p. limit_of p.parts.entries ≡ p.limit) c.moving.view_is (alike c.moving.invariant).limited in
     write-answered old.course.window (list_length old.parts.members.newest) old.limit (relied_sector old.parts.members.newest old.parts.work.resync) at (at + length c.args.from.now / 512) (sectors_of c.args.from.now) c.args.who old.parts.entries new.parts.entries old.parts.members new.parts.members
     (left_in new.parts.work new.parts.members new.course new.ahead) (omega (arith, long)) c.requires.next sized limited c.write_beside.result (returns-then-not-meets-clause-entered g c) (returns-then-not-meets-clause-caused g c)
 
@@ -208,8 +215,8 @@ returns-in-Err-finish_for-clause-answered g c =
     let new = c.finish_for.new.moving in
     let at = c.args.at in
     let long = length-sectors_of c.args.from.now in
-    let sized = subst (λ p. length_of (list_length p.parts.members.newest) p.parts.entries ≡ list_length p.parts.members.newest) c.moving.view_is c.moving.invariant.sized in
-    let limited = subst (λ p. limit_of p.parts.entries ≡ p.limit) c.moving.view_is c.moving.invariant.limited in
+    let sized = subst (λ p. length_of (list_length p.parts.members.newest) p.parts.entries ≡ list_length p.parts.members.newest) c.moving.view_is (alike c.moving.invariant).sized in
+    let limited = subst (λ p. limit_of p.parts.entries ≡ p.limit) c.moving.view_is (alike c.moving.invariant).limited in
     write-answered old.course.window (list_length old.parts.members.newest) old.limit (relied_sector old.parts.members.newest old.parts.work.resync) at (at + length c.args.from.now / 512) (sectors_of c.args.from.now) c.args.who old.parts.entries new.parts.entries old.parts.members new.parts.members
     (left_in new.parts.work new.parts.members new.course new.ahead) (omega (arith, long)) c.requires.next sized limited {T = ℕ} (Err c.in-Err-finish_for.fault) (returns-in-Err-finish_for-clause-entered g c) (returns-in-Err-finish_for-clause-caused g c)
 
@@ -219,8 +226,8 @@ returns-clause-answered g c =
     let new = c.write_beside-2.new.moving in
     let at = c.args.at in
     let long = length-sectors_of c.args.from.now in
-    let sized = subst (λ p. length_of (list_length p.parts.members.newest) p.parts.entries ≡ list_length p.parts.members.newest) c.moving.view_is c.moving.invariant.sized in
-    let limited = subst (λ p. limit_of p.parts.entries ≡ p.limit) c.moving.view_is c.moving.invariant.limited in
+    let sized = subst (λ p. length_of (list_length p.parts.members.newest) p.parts.entries ≡ list_length p.parts.members.newest) c.moving.view_is (alike c.moving.invariant).sized in
+    let limited = subst (λ p. limit_of p.parts.entries ≡ p.limit) c.moving.view_is (alike c.moving.invariant).limited in
     write-answered old.course.window (list_length old.parts.members.newest) old.limit (relied_sector old.parts.members.newest old.parts.work.resync) at (at + length c.args.from.now / 512) (sectors_of c.args.from.now) c.args.who old.parts.entries new.parts.entries old.parts.members new.parts.members
     (left_in new.parts.work new.parts.members new.course new.ahead) (omega (arith, long)) c.requires.next sized limited c.write_beside-2.result (returns-clause-entered g c) (returns-clause-caused g c)
 
@@ -260,7 +267,7 @@ done-so (Err fault) P is = tt
 
 pub returns-in-Err-clause-called : goal.returns-in-Err-clause-called
 returns-in-Err-clause-called g c =
-    let was = c.moving.invariant in
+    let was = (alike c.moving.invariant) in
     let a = c.moving.inside in
     let given = g.B.Bank.given a.bank in
     let faults = g.B.Bank.faults_of a.bank in
@@ -314,4 +321,20 @@ returns-clause-closed g c =
     (λ touches. c.write_beside-2.ensures.course ∙ c.in-Ok-finish_for.ensures.closed)
 
 pub returns-clause-given : goal.returns-clause-given
-returns-clause-given g c = c.write_beside-2.ensures.given ∙ c.in-Ok-finish_for.ensures.given ∙ ap (λ p. g.B.Bank.given p.parts.bank) c.moving.view_is
+returns-clause-given g c =
+    c.write_beside-2.ensures.given ∙ c.in-Ok-finish_for.ensures.given ∙ ap (λ p. g.B.Bank.given p.parts.bank) c.moving.view_is
+
+pub returns-in-Err-make_room-clause-active : goal.returns-in-Err-make_room-clause-active
+returns-in-Err-make_room-clause-active g c = (ap (λ p. is_reshaping p.parts.members.newest) c.moving.view_is ∙ c.requires.active)
+
+pub returns-then-not-meets-clause-active : goal.returns-then-not-meets-clause-active
+returns-then-not-meets-clause-active g c = c.write_beside.ensures.active
+
+pub returns-in-Err-finish_for-clause-active : goal.returns-in-Err-finish_for-clause-active
+returns-in-Err-finish_for-clause-active g c = c.finish_for.ensures.active
+
+pub returns-clause-active : goal.returns-clause-active
+returns-clause-active g c = c.write_beside-2.ensures.active
+
+pub returns-in-Err-clause-active : goal.returns-in-Err-clause-active
+returns-in-Err-clause-active g c = (ap (λ p. is_reshaping p.parts.members.newest) c.moving.view_is ∙ c.requires.active)

@@ -1,14 +1,14 @@
 use Rattle.std.proofs.Common.{ℕ, sym, ◌∙◌, subst, arith}
 use Rattle.array_fixed_invariant.specs.raid_types_the_Shape.{Shape}
-use Rattle.array_reshaping.specs.sb_specs_Reading.{final_shape}
+use Rattle.array_fixed_invariant.specs.sb_specs_Reading.{final_shape}
 use Rattle.array_fixed_invariant.proofs.sb_specs_ValidFields.{few-roles}
 use Rattle.array_fixed_invariant.specs.stripe_row_Rows.{reading_of, present}
-use Rattle.array_reshaping.specs.stripe_list_Full.{RowStands}
-use Rattle.array_reshaping.proofs.crash_views_Stands.{span-order}
-use Rattle.array_reshaping.specs.array_members_Lacking.{AreOtherRowsKept, IsOfStripe}
+use Rattle.array_fixed_invariant.specs.stripe_list_Full.{RowStands}
+use Rattle.array_fixed_invariant.proofs.crash_views_Stands.{span-order}
+use Rattle.array_fixed_invariant.specs.array_members_Lacking.{AreOtherRowsKept, IsOfStripe}
 use Rattle.array_fixed_invariant.proofs.array_members_LackingLaws.{lost-since}
-use Rattle.array_reshaping.specs.reshape_progress_Laws.{next_stripe}
-use Rattle.array_reshaping.proofs.Calls.{known-moved}
+use Rattle.array_fixed_invariant.specs.reshape_progress_Laws.{next_stripe}
+use Rattle.array_type.proofs.ReshapingCalls.{known-moved}
 use Rattle.array_reshaping_steps.proofs.copying.copy_next.Goals as goal
 
 pub overflow_cast-count : goal.overflow_cast-count
@@ -42,7 +42,8 @@ returns-clause-since g c =
     (c.len-count.ensures ∙ c.requires.stands.placed.roles) c.unassigned_roles-before.ensures c.newly_unassigned.ensures
 
 pub returns-clause-stands : goal.returns-clause-stands
-returns-clause-stands g c = λ none t list copied row at.
+returns-clause-stands g c =
+    λ none t list copied row at.
     let m = c.args.members.now in
     let new = c.copy-done.new.members in
     let tape = g.B.Bank.tape c.copy-done.new.bank in
@@ -53,7 +54,8 @@ returns-clause-stands g c = λ none t list copied row at.
     (subst (λ (n : ℕ). IsOfStripe (final_shape m.newest) n row) (sym {b = next_stripe c.args.members.now c.args.span.now c.args.copied} c.stripe_to_copy-stripe.ensures.value) at)))
 
 pub returns-clause-others : goal.returns-clause-others
-returns-clause-others g c = λ t.
+returns-clause-others g c =
+    λ t.
     let m = c.args.members.now in
     let new = c.copy-done.new.members in
     let given = g.B.Bank.given c.args.bank.now in

@@ -3,48 +3,50 @@ use Rattle.std.specs.Vec.{with_items}
 use Rattle.array_fixed_invariant.specs.bank_Tape.{disk}
 use Rattle.array_fixed_invariant.specs.raid_types_the_Refusal.{Refusal}
 use Rattle.array_fixed_invariant.specs.raid_types_the_Span.{Span}
-use Rattle.array_reshaping.specs.reshape_geometry_Geometry.{is_critical}
-use Rattle.array_reshaping.specs.sb_specs_Reading.{is_backward, shape_of, final_shape, next_window, is_clean}
+use Rattle.array_type.specs.reshape_geometry_Geometry.{is_critical}
+use Rattle.array_fixed_invariant.specs.sb_specs_Reading.{is_backward, shape_of, final_shape, next_window, is_clean, is_reshaping}
 use Rattle.array_fixed_invariant.specs.history_the_Event_TheVariants.{Refused, Step}
 use Rattle.array_fixed_invariant.specs.history_the_StepKind_TheVariants.{Entered as EntersWindow}
 use Rattle.array_fixed_invariant.specs.history_Plain.{entries_of}
-use Rattle.array_reshaping.specs.array_members_Lacking.{AreTooMany}
-use Rattle.array_reshaping.specs.array_members_Numbers.{bears}
+use Rattle.array_fixed_invariant.specs.array_members_Lacking.{AreTooMany}
+use Rattle.array_fixed_invariant.specs.array_members_Numbers.{bears}
 use Rattle.array_fixed_invariant.proofs.array_members_LackingLaws.{never-both}
-use Rattle.array_reshaping.proofs.array_members_MovedLaws.{grows-none, moved-same}
+use Rattle.array_fixed_invariant.proofs.array_members_MovedLaws.{grows-none, moved-same}
 use Rattle.array_fixed_invariant.specs.history_append_Losing.{losses_of}
-use Rattle.array_reshaping.specs.array_call_specs_Kept.{scope_in}
-use Rattle.array_reshaping.proofs.array_call_specs_LossLaws.{losses-behind, ended-behind, behind-alone}
-use Rattle.array_reshaping.proofs.array_call_specs_ReadyLaws.{scope-same}
-use Rattle.array_reshaping.specs.history_invariant_Recorded.{IsCallGoing}
-use Rattle.array_reshaping.specs.history_invariant_Safe.{world_in, OpensOnCourse}
-use Rattle.array_reshaping.specs.reshape_request_the_Window_TheVariants.{Unsure}
-use Rattle.array_reshaping.specs.reshape_progress_the_Course.{Course}
-use Rattle.array_reshaping.specs.reshape_progress_Course.{IsStored}
-use Rattle.array_reshaping.specs.reshape_progress_Laws.{entered}
-use Rattle.array_reshaping.specs.array_reshaping_invariant_Moving.{IsMoving}
-use Rattle.array_reshaping.proofs.array_reshaping_invariant_Refusals.{quiet-refusal, refused-right}
-use Rattle.array_reshaping.proofs.array_reshaping_invariant_Resting.{resting-moves}
-use Rattle.array_reshaping.proofs.array_reshaping_invariant_Steps.{missing-since}
-use Rattle.array_reshaping.specs.array_specs_Calls.{IsEnterDue}
-use Rattle.array_reshaping.specs.array_specs_Parts.{left_in}
-use Rattle.array_reshaping.specs.array_reshaping_laws_Ready.{bytes_in}
-use Rattle.array_reshaping.proofs.array_specs_Called.{not_254, called, alone-lossless, risen-told}
-use Rattle.array_reshaping.proofs.array_reshaping_laws_Kept.{ready, ready-moved, shapes-same, shapes-moved, behind-keeps, behind-whole, with-buffer, written-whole}
-use Rattle.array_reshaping.proofs.array_reshaping_laws_EnterLaws.{backup-for}
-use Rattle.array_reshaping.proofs.array_reshaping_laws_BarredLaws.{closed-of}
-use Rattle.array_reshaping.proofs.array_reshaping_laws_Entered.{course_in, IsNextTried, when-some, when-none, enter-refused, enter-left, enter-done}
-use Rattle.array_reshaping.specs.history_Stands.{reach_of}
+use Rattle.array_fixed_invariant.specs.array_call_specs_Kept.{scope_in}
+use Rattle.array_fixed_invariant.proofs.array_call_specs_LossLaws.{losses-behind, ended-behind, behind-alone}
+use Rattle.array_fixed_invariant.proofs.array_call_specs_ReadyLaws.{scope-same}
+use Rattle.array_fixed_invariant.specs.history_invariant_Recorded.{IsCallGoing}
+use Rattle.array_fixed_invariant.specs.history_invariant_Safe.{world_in, OpensOnCourse}
+use Rattle.array_type.specs.reshape_request_the_Window_TheVariants.{Unsure}
+use Rattle.array_type.specs.reshape_progress_the_Course.{Course}
+use Rattle.array_type.specs.reshape_progress_Course.{IsStored}
+use Rattle.array_fixed_invariant.specs.reshape_progress_Laws.{entered}
+use Rattle.array_type.specs.array_reshaping_invariant_Moving.{IsMoving}
+use Rattle.array_type.proofs.array_reshaping_invariant_Refusals.{quiet-refusal, refused-right}
+use Rattle.array_type.proofs.array_reshaping_invariant_Resting.{resting-moves}
+use Rattle.array_type.proofs.array_reshaping_invariant_Steps.{missing-since}
+use Rattle.array_type.specs.array_specs_Calls.{IsEnterDue}
+use Rattle.array_type.specs.array_specs_Parts.{left_in}
+use Rattle.array_type.specs.array_reshaping_laws_Ready.{bytes_in}
+use Rattle.array_type.proofs.array_specs_Called.{not_254, called, alone-lossless, risen-told}
+use Rattle.array_type.proofs.array_reshaping_laws_Kept.{ready, ready-moved, shapes-same, shapes-moved, behind-keeps, behind-whole, with-buffer, written-whole}
+use Rattle.array_type.proofs.array_reshaping_laws_EnterLaws.{backup-for}
+use Rattle.array_type.proofs.array_reshaping_laws_BarredLaws.{closed-of}
+use Rattle.array_type.proofs.array_reshaping_laws_Entered.{course_in, IsNextTried, when-some, when-none, enter-refused, enter-left, enter-done}
+use Rattle.array_type.specs.history_Stands.{reach_of}
 use Rattle.array_fixed_invariant.specs.reshape_request_Left.{phases_of}
-use Rattle.array_reshaping.proofs.StepLaws.{one-fewer, same-some, room-behind, wide-for, scratch-for, never-some, taken-behind, under-way-moved, zeroed-moved, sound-moved, entered-right}
-use Rattle.array_reshaping.proofs.array_specs_Lengths.{alone-keeps}
+use Rattle.array_type.proofs.StepLaws.{one-fewer, same-some, room-behind, wide-for, scratch-for, never-some, taken-behind, under-way-moved, zeroed-moved, sound-moved, entered-right}
+use Rattle.array_type.proofs.array_specs_Lengths.{alone-keeps}
+use Rattle.array_type.proofs.Alike.{alike, goes-on}
 use Rattle.array_reshaping_steps.proofs.entering.enter_sure.Goals as goal
 
 -- ---- the members lack too many
 
 pub invariant_of-moving : goal.invariant_of-moving
 invariant_of-moving g c =
-    let was = c.moving.invariant in
+    goes-on (c.moving.invariant.moves (ap (λ p. is_reshaping p.parts.members.newest) c.moving.view_is ∙ c.requires.active)).0 (
+    let was = (c.moving.invariant.moves (ap (λ p. is_reshaping p.parts.members.newest) c.moving.view_is ∙ c.requires.active)).1 in
     let a = c.moving.inside in
     let given = g.B.Bank.given a.bank in
     let scope = scope_in given a.epoch.uuid a.epoch.given (Some a.backup) in
@@ -58,11 +60,11 @@ invariant_of-moving g c =
     (λ t right. refused-right (world_in given tape scope a.epoch.first) a.epoch.entries.items given a.members was.kept.members_are.placed (was.kept.gone t right) (was.kept.levelled t right) refusal c.in-Some.ensures) in
     ready (entries_of c.args.who end (Refused refusal ∷ [])) was (grows-none (λ t. refl)) (shapes-same a.members.newest) kept
     refl (λ slot. omega arith) (alone-keeps c.args.who end (Refused refusal) (λ n. refl) (λ limit. refl)) (λ none whole. whole) refl (scope-same given (Some a.backup) refl c.append_entry.ensures.uuid c.append_entry.ensures.given) c.append_entry.ensures.first refl c.append_entry.ensures.items
-    (let had = was.room_left in let room = c.append_entry.ensures.room in omega (arith, room, had, steps))
+    (let had = was.room_left in let room = c.append_entry.ensures.room in omega (arith, room, had, steps)))
 
 pub returns-in-Some-clause-called : goal.returns-in-Some-clause-called
 returns-in-Some-clause-called g c =
-    let was = c.moving.invariant in
+    let was = (alike c.moving.invariant) in
     let a = c.moving.inside in
     let given = g.B.Bank.given a.bank in
     let faults = g.B.Bank.faults_of a.bank in
@@ -84,18 +86,19 @@ returns-in-Some-clause-entered g c =
 pub enter_next-tried-requires-clause-slot : goal.enter_next-tried-requires-clause-slot
 enter_next-tried-requires-clause-slot g c =
     let a = c.moving.inside in
-    (backup-for (g.B.Bank.given a.bank) a.epoch.uuid a.epoch.given a.backup a.members c.in-Some-next_window_of.span c.moving.invariant.kept.members_are (sym c.in-Some-next_window_of.ensures.value)).slot
+    (backup-for (g.B.Bank.given a.bank) a.epoch.uuid a.epoch.given a.backup a.members c.in-Some-next_window_of.span (c.moving.invariant.moves (ap (λ p. is_reshaping p.parts.members.newest) c.moving.view_is ∙ c.requires.active)).1.kept.members_are (sym c.in-Some-next_window_of.ensures.value)).slot
 
 pub enter_next-tried-requires-clause-within : goal.enter_next-tried-requires-clause-within
 enter_next-tried-requires-clause-within g c =
     let a = c.moving.inside in
-    (backup-for (g.B.Bank.given a.bank) a.epoch.uuid a.epoch.given a.backup a.members c.in-Some-next_window_of.span c.moving.invariant.kept.members_are (sym c.in-Some-next_window_of.ensures.value)).within
+    (backup-for (g.B.Bank.given a.bank) a.epoch.uuid a.epoch.given a.backup a.members c.in-Some-next_window_of.span (c.moving.invariant.moves (ap (λ p. is_reshaping p.parts.members.newest) c.moving.view_is ∙ c.requires.active)).1.kept.members_are (sym c.in-Some-next_window_of.ensures.value)).within
 
 -- ---- it is refused
 
 pub invariant_of-moving-in-Some-refusal : goal.invariant_of-moving-in-Some-refusal
 invariant_of-moving-in-Some-refusal g c =
-    let was = c.moving.invariant in
+    goes-on (c.moving.invariant.moves (ap (λ p. is_reshaping p.parts.members.newest) c.moving.view_is ∙ c.requires.active)).0 (
+    let was = (c.moving.invariant.moves (ap (λ p. is_reshaping p.parts.members.newest) c.moving.view_is ∙ c.requires.active)).1 in
     let a = c.moving.inside in
     let given = g.B.Bank.given a.bank in
     let scope = scope_in given a.epoch.uuid a.epoch.given (Some a.backup) in
@@ -137,11 +140,11 @@ invariant_of-moving-in-Some-refusal g c =
     (let len = (with_items a.window written).ok.0 in let ok = a.window.ok.0 in omega (arith, len, ok)) did.bank.counts (behind-keeps c.args.who end tried.roles tried.spares (Refused refusal) (λ n. refl) (λ limit. refl))
     (behind-whole tape' scope a.epoch.first a.epoch.entries.items c.args.who end tried.roles tried.spares (Refused refusal) did.moved (missing-since tried.roles did.moved did.since.vacant))
     did.bank.same (scope-same given (Some a.backup) did.bank.same c.append_after_losses.ensures.uuid c.append_after_losses.ensures.given) c.append_after_losses.ensures.first refl c.append_after_losses.ensures.items
-    (let had = was.room_left in let room = c.append_after_losses.ensures.room in omega (arith, room, had, steps)))
+    (let had = was.room_left in let room = c.append_after_losses.ensures.room in omega (arith, room, had, steps))))
 
 pub returns-in-Some-refusal-clause-called : goal.returns-in-Some-refusal-clause-called
 returns-in-Some-refusal-clause-called g c =
-    let was = c.moving.invariant in
+    let was = (alike c.moving.invariant) in
     let a = c.moving.inside in
     let m = c.enter_next-tried.new.members in
     let did = c.enter_next-tried.ensures in
@@ -158,7 +161,8 @@ returns-in-Some-refusal-clause-called g c =
     (λ t. (was.kept.recorded t).begun))
 
 pub returns-in-Some-refusal-clause-caused : goal.returns-in-Some-refusal-clause-caused
-returns-in-Some-refusal-clause-caused g c = rw (← c.moving.view_is) (when-some _ _ c.enter_next-tried.result.refusal c.in-Some-refusal.refusal c.in-Some-refusal.is c.enter_next-tried.ensures.refused)
+returns-in-Some-refusal-clause-caused g c =
+    rw (← c.moving.view_is) (when-some _ _ c.enter_next-tried.result.refusal c.in-Some-refusal.refusal c.in-Some-refusal.is c.enter_next-tried.ensures.refused)
 
 pub returns-in-Some-refusal-clause-course : goal.returns-in-Some-refusal-clause-course
 returns-in-Some-refusal-clause-course g c =
@@ -178,7 +182,8 @@ returns-in-Some-refusal-clause-course g c =
 
 pub invariant_of-moving-2 : goal.invariant_of-moving-2
 invariant_of-moving-2 g c =
-    let was = c.moving.invariant in
+    goes-on (c.moving.invariant.moves (ap (λ p. is_reshaping p.parts.members.newest) c.moving.view_is ∙ c.requires.active)).0 (
+    let was = (c.moving.invariant.moves (ap (λ p. is_reshaping p.parts.members.newest) c.moving.view_is ∙ c.requires.active)).1 in
     let a = c.moving.inside in
     let given = g.B.Bank.given a.bank in
     let scope = scope_in given a.epoch.uuid a.epoch.given (Some a.backup) in
@@ -207,23 +212,23 @@ invariant_of-moving-2 g c =
       stored = λ t on. did.stored t scope its (stored t on).section (stored t on).headers;
       safe = λ t on told list room gone unclean stands filled allowed before. did.safe t (world_in given tape scope a.epoch.first) told list room gone unclean its (stored t on).section stands filled allowed before;
     } in
-    let left = c.all_left-left.result in
+    let left = c.left_in_reshape-left.result in
     let end = c.ops-end-2.result in
     let whole : (with_items a.window written).items ≡ written = written-whole a.window.len a.window.items written (c.enter_next-tried.auto.window ∙ ap (λ (l : List ℕ). length l) c.as_mut_slice.ensures.value) a.window.ok.0 in
     let kept = subst (λ (l : List ℕ). IsMoving g.B.Bank.tells given tape' scope a.epoch.first (a.epoch.entries.items ++ entries_of c.args.who end (losses_of tried.roles tried.spares ++ Step EntersWindow left ∷ [])) m (bears a.work) a.work.resync
     (record a.course { window = tried.window }) (bytes_in tried.window l) (left_in a.work m (record a.course { window = tried.window }) a.ahead)) (sym whole)
     (enter-done a.course a.ahead tried.window span written c.args.who c.ops-end-2.result tried.roles tried.spares shut at was.kept synced was.full c.in_default.ensures goes c.requires.caller c.ops-end-2.ensures.count did.bank.grows next
-    c.is_window_critical-sectioned.result (when-none _ _ tried.refusal c.in_default-refusal.is did.window) (λ critical. c.is_window_critical-sectioned.ensures ∙ critical) left c.all_left-left.ensures) in
+    c.is_window_critical-sectioned.result (when-none _ _ tried.refusal c.in_default-refusal.is did.window) (λ critical. c.is_window_critical-sectioned.ensures ∙ critical) left c.left_in_reshape-left.ensures) in
     with-buffer (let len = (with_items a.buffer c.enter_next-tried.new.scratch).ok.0 in let ok = a.buffer.ok.0 in omega (arith, len, ok, was.buffer_fits))
     (ready-moved (entries_of c.args.who end (losses_of tried.roles tried.spares ++ Step EntersWindow left ∷ [])) was did.bank.grows (shapes-moved given a.members m did.moved) kept (λ span is. inr (did.dead span is))
     (let len = (with_items a.window written).ok.0 in let ok = a.window.ok.0 in omega (arith, len, ok)) did.bank.counts (behind-keeps c.args.who end tried.roles tried.spares (Step EntersWindow left) (λ n. refl) (λ limit. refl))
     (behind-whole tape' scope a.epoch.first a.epoch.entries.items c.args.who end tried.roles tried.spares (Step EntersWindow left) did.moved (missing-since tried.roles did.moved did.since.vacant))
     did.bank.same (scope-same given (Some a.backup) did.bank.same c.append_after_losses-2.ensures.uuid c.append_after_losses-2.ensures.given) c.append_after_losses-2.ensures.first refl c.append_after_losses-2.ensures.items
-    (let had = was.room_left in let room = c.append_after_losses-2.ensures.room in omega (arith, room, had, steps)))
+    (let had = was.room_left in let room = c.append_after_losses-2.ensures.room in omega (arith, room, had, steps))))
 
 pub returns-clause-called : goal.returns-clause-called
 returns-clause-called g c =
-    let was = c.moving.invariant in
+    let was = (alike c.moving.invariant) in
     let a = c.moving.inside in
     let m = c.enter_next-tried.new.members in
     let did = c.enter_next-tried.ensures in
@@ -231,7 +236,7 @@ returns-clause-called g c =
     let before = g.B.Bank.faults_of a.bank in
     let after = g.B.Bank.faults_of c.enter_next-tried.new.bank in
     let end = c.ops-end-2.result in
-    let event = Step EntersWindow c.all_left-left.result in
+    let event = Step EntersWindow c.left_in_reshape-left.result in
     rw (← c.moving.view_is) (called did.bank.grows did.moved
     (ended-behind (g.B.Bank.tape c.enter_next-tried.new.bank) c.append_after_losses-2.new.epoch.first a.epoch.entries.items c.args.who end (losses_of tried.roles tried.spares) event c.append_after_losses-2.ensures.items c.ops-end-2.ensures.count)
     (losses-behind a.members m before after a.epoch.entries.items a.epoch.entries.items c.append_after_losses-2.new.epoch.entries.items c.args.who end tried.roles tried.spares event did.since tt refl c.append_after_losses-2.ensures.items)
@@ -240,14 +245,15 @@ returns-clause-called g c =
     (λ t. (was.kept.recorded t).begun))
 
 pub returns-clause-caused : goal.returns-clause-caused
-returns-clause-caused g c = rw (← c.moving.view_is) (
+returns-clause-caused g c =
+    rw (← c.moving.view_is) (
   λ refusal many. never-both c.moving.inside.members refusal c.in_default.ensures many,
   λ refusal many. never-both c.enter_next-tried.new.members refusal (when-none _ _ c.enter_next-tried.result.refusal c.in_default-refusal.is c.enter_next-tried.ensures.refused) many,
 )
 
 pub returns-clause-left : goal.returns-clause-left
 returns-clause-left g c =
-    let was = c.moving.invariant in
+    let was = (c.moving.invariant.moves (ap (λ p. is_reshaping p.parts.members.newest) c.moving.view_is ∙ c.requires.active)).1 in
     let a = c.moving.inside in
     let given = g.B.Bank.given a.bank in
     let scope = scope_in given a.epoch.uuid a.epoch.given (Some a.backup) in
@@ -326,33 +332,36 @@ pub is_window_critical-sectioned-requires-clause-next : goal.is_window_critical-
 is_window_critical-sectioned-requires-clause-next g c = sym c.in-Some-next_window_of.ensures.value
 
 pub enter_next-tried-requires-clause-stands : goal.enter_next-tried-requires-clause-stands
-enter_next-tried-requires-clause-stands g c = record {
-  slots = c.moving.invariant.kept.slots;
-  placed = c.moving.invariant.kept.members_are.placed;
-  unlost = c.moving.invariant.kept.members_are.unlost;
-  free = c.moving.invariant.kept.members_are.free;
+enter_next-tried-requires-clause-stands g c =
+    record {
+  slots = (alike c.moving.invariant).kept.slots;
+  placed = (alike c.moving.invariant).kept.members_are.placed;
+  unlost = (alike c.moving.invariant).kept.members_are.unlost;
+  free = (alike c.moving.invariant).kept.members_are.free;
 }
 
 pub enter_next-tried-requires-clause-next : goal.enter_next-tried-requires-clause-next
 enter_next-tried-requires-clause-next g c = sym c.in-Some-next_window_of.ensures.value
 
 pub enter_next-tried-requires-clause-aside : goal.enter_next-tried-requires-clause-aside
-enter_next-tried-requires-clause-aside g c = c.moving.invariant.kept.members_are.aside
+enter_next-tried-requires-clause-aside g c =
+    (c.moving.invariant.moves (ap (λ p. is_reshaping p.parts.members.newest) c.moving.view_is ∙ c.requires.active)).1.kept.members_are.aside
 
 pub enter_next-tried-requires-clause-wide : goal.enter_next-tried-requires-clause-wide
 enter_next-tried-requires-clause-wide g c =
     wide-for (c.in-Some-next_window_of.span.hi - c.in-Some-next_window_of.span.lo) (reach_of c.moving.inside.members.newest) (length c.moving.inside.window.items) (length c.as_mut_slice.result.now)
-    (ap (λ (l : List ℕ). length l) c.as_mut_slice.ensures.value) c.in-Some-next_window_of.ensures.reach c.moving.invariant.wide
+    (ap (λ (l : List ℕ). length l) c.as_mut_slice.ensures.value) c.in-Some-next_window_of.ensures.reach (c.moving.invariant.moves (ap (λ p. is_reshaping p.parts.members.newest) c.moving.view_is ∙ c.requires.active)).1.wide
 
 pub enter_next-tried-requires-clause-scratch : goal.enter_next-tried-requires-clause-scratch
 enter_next-tried-requires-clause-scratch g c =
-    scratch-for (length c.moving.inside.buffer.items) (length c.as_mut_slice-2.result.now) (ap (λ (l : List ℕ). length l) c.as_mut_slice-2.ensures.value) c.moving.invariant.buffer_fits
+    scratch-for (length c.moving.inside.buffer.items) (length c.as_mut_slice-2.result.now) (ap (λ (l : List ℕ). length l) c.as_mut_slice-2.ensures.value) (alike c.moving.invariant).buffer_fits
 
 pub enter_next-tried-requires-clause-relied : goal.enter_next-tried-requires-clause-relied
 enter_next-tried-requires-clause-relied g c = le_of_eq (sym c.list_sectors-relied.ensures.length)
 
 pub append_after_losses-requires-clause-room : goal.append_after_losses-requires-clause-room
-append_after_losses-requires-clause-room g c = room-behind c.moving.inside.steps c.args.moving.now.parts.steps c.moving.inside.epoch.entries.room (ap (λ p. p.parts.steps) c.moving.view_is) c.requires.room c.moving.invariant.room_left
+append_after_losses-requires-clause-room g c =
+    room-behind c.moving.inside.steps c.args.moving.now.parts.steps c.moving.inside.epoch.entries.room (ap (λ p. p.parts.steps) c.moving.view_is) c.requires.room (alike c.moving.invariant).room_left
 
 pub append_after_losses-requires-clause-number : goal.append_after_losses-requires-clause-number
 append_after_losses-requires-clause-number g c = c.check_going.ensures
@@ -371,29 +380,30 @@ returns-in-Some-refusal-clause-room g c = one-fewer c.moving.inside.steps c.args
 pub returns-in-Some-refusal-clause-given : goal.returns-in-Some-refusal-clause-given
 returns-in-Some-refusal-clause-given g c = c.enter_next-tried.ensures.bank.same ∙ ap (λ p. g.B.Bank.given p.parts.bank) c.moving.view_is
 
-pub all_left-left-requires-clause-fit : goal.all_left-left-requires-clause-fit
-all_left-left-requires-clause-fit g c = c.enter_next-tried.ensures.moved.placed.fit
+pub left_in_reshape-left-requires-clause-fit : goal.left_in_reshape-left-requires-clause-fit
+left_in_reshape-left-requires-clause-fit g c = c.enter_next-tried.ensures.moved.placed.fit
 
-pub all_left-left-requires-clause-reshape : goal.all_left-left-requires-clause-reshape
-all_left-left-requires-clause-reshape g c =
-    under-way-moved (g.B.Bank.given c.moving.inside.bank) c.moving.inside.members c.enter_next-tried.new.members c.enter_next-tried.ensures.moved c.moving.invariant.kept.members_are.active
+pub left_in_reshape-left-requires-clause-reshape : goal.left_in_reshape-left-requires-clause-reshape
+left_in_reshape-left-requires-clause-reshape g c =
+    under-way-moved (g.B.Bank.given c.moving.inside.bank) c.moving.inside.members c.enter_next-tried.new.members c.enter_next-tried.ensures.moved (c.moving.invariant.moves (ap (λ p. is_reshaping p.parts.members.newest) c.moving.view_is ∙ c.requires.active)).1.kept.members_are.active
 
-pub all_left-left-requires-clause-open : goal.all_left-left-requires-clause-open
-all_left-left-requires-clause-open g c =
+pub left_in_reshape-left-requires-clause-open : goal.left_in_reshape-left-requires-clause-open
+left_in_reshape-left-requires-clause-open g c =
     let tried = c.enter_next-tried.result in
     entered-right (g.B.Bank.given c.moving.inside.bank) c.moving.inside.members c.enter_next-tried.new.members c.enter_next-tried.ensures.moved tried.window c.in-Some-next_window_of.span c.is_window_critical-sectioned.result
     (when-none _ _ tried.refusal c.in_default-refusal.is c.enter_next-tried.ensures.window) (sym c.in-Some-next_window_of.ensures.value)
 
-pub all_left-left-requires-clause-zeroed : goal.all_left-left-requires-clause-zeroed
-all_left-left-requires-clause-zeroed g c =
-    zeroed-moved (g.B.Bank.given c.moving.inside.bank) c.moving.inside.members c.enter_next-tried.new.members c.enter_next-tried.ensures.moved c.moving.inside.course.zeroed c.moving.invariant.kept.course_is.few
+pub left_in_reshape-left-requires-clause-zeroed : goal.left_in_reshape-left-requires-clause-zeroed
+left_in_reshape-left-requires-clause-zeroed g c =
+    zeroed-moved (g.B.Bank.given c.moving.inside.bank) c.moving.inside.members c.enter_next-tried.new.members c.enter_next-tried.ensures.moved c.moving.inside.course.zeroed (c.moving.invariant.moves (ap (λ p. is_reshaping p.parts.members.newest) c.moving.view_is ∙ c.requires.active)).1.kept.course_is.few
 
-pub all_left-left-requires-clause-sound : goal.all_left-left-requires-clause-sound
-all_left-left-requires-clause-sound g c =
-    sound-moved (g.B.Bank.given c.moving.inside.bank) c.moving.inside.members c.enter_next-tried.new.members c.enter_next-tried.ensures.moved (phases_of c.moving.inside.ahead) c.moving.invariant.planned
+pub left_in_reshape-left-requires-clause-sound : goal.left_in_reshape-left-requires-clause-sound
+left_in_reshape-left-requires-clause-sound g c =
+    sound-moved (g.B.Bank.given c.moving.inside.bank) c.moving.inside.members c.enter_next-tried.new.members c.enter_next-tried.ensures.moved (phases_of c.moving.inside.ahead) (c.moving.invariant.moves (ap (λ p. is_reshaping p.parts.members.newest) c.moving.view_is ∙ c.requires.active)).1.planned
 
 pub append_after_losses-requires-2-clause-room : goal.append_after_losses-requires-2-clause-room
-append_after_losses-requires-2-clause-room g c = room-behind c.moving.inside.steps c.args.moving.now.parts.steps c.moving.inside.epoch.entries.room (ap (λ p. p.parts.steps) c.moving.view_is) c.requires.room c.moving.invariant.room_left
+append_after_losses-requires-2-clause-room g c =
+    room-behind c.moving.inside.steps c.args.moving.now.parts.steps c.moving.inside.epoch.entries.room (ap (λ p. p.parts.steps) c.moving.view_is) c.requires.room (alike c.moving.invariant).room_left
 
 pub append_after_losses-requires-2-clause-number : goal.append_after_losses-requires-2-clause-number
 append_after_losses-requires-2-clause-number g c = c.check_going.ensures
@@ -401,7 +411,7 @@ append_after_losses-requires-2-clause-number g c = c.check_going.ensures
 pub returns-clause-entered : goal.returns-clause-entered
 returns-clause-entered g c =
     let tried = c.enter_next-tried.result in
-    rw (← c.moving.view_is) (taken-behind c.args.who c.ops-end-2.result tried.roles tried.spares EntersWindow c.all_left-left.result _ c.all_left-left.ensures c.append_after_losses-2.ensures.items)
+    rw (← c.moving.view_is) (taken-behind c.args.who c.ops-end-2.result tried.roles tried.spares EntersWindow c.left_in_reshape-left.result _ c.left_in_reshape-left.ensures c.append_after_losses-2.ensures.items)
 
 pub returns-clause-clean : goal.returns-clause-clean
 returns-clause-clean g c = c.enter_next-tried.ensures.clean ∙ ap (λ p. is_clean p.parts.members.newest) c.moving.view_is
@@ -411,3 +421,12 @@ returns-clause-room g c = one-fewer c.moving.inside.steps c.args.moving.now.part
 
 pub returns-clause-given : goal.returns-clause-given
 returns-clause-given g c = c.enter_next-tried.ensures.bank.same ∙ ap (λ p. g.B.Bank.given p.parts.bank) c.moving.view_is
+
+pub returns-in-Some-clause-active : goal.returns-in-Some-clause-active
+returns-in-Some-clause-active g c = (ap (λ p. is_reshaping p.parts.members.newest) c.moving.view_is ∙ c.requires.active)
+
+pub returns-in-Some-refusal-clause-active : goal.returns-in-Some-refusal-clause-active
+returns-in-Some-refusal-clause-active g c = c.enter_next-tried.ensures.moved.reshape.reshaping ∙ (ap (λ p. is_reshaping p.parts.members.newest) c.moving.view_is ∙ c.requires.active)
+
+pub returns-clause-active : goal.returns-clause-active
+returns-clause-active g c = c.enter_next-tried.ensures.moved.reshape.reshaping ∙ (ap (λ p. is_reshaping p.parts.members.newest) c.moving.view_is ∙ c.requires.active)

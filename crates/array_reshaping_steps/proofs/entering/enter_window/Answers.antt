@@ -2,19 +2,20 @@ use Rattle.std.proofs.Common.{◌≡◌, inl, ap, subst}
 use Rattle.array_fixed_invariant.specs.raid_types_the_Refusal.{Refusal}
 use Rattle.array_fixed_invariant.specs.raid_types_the_Refusal_TheVariants.{BackupFault}
 use Rattle.array_fixed_invariant.specs.raid_types_the_Span.{Span}
-use Rattle.array_reshaping.specs.sb_specs_Reading.{is_clean}
-use Rattle.array_reshaping.specs.sb_specs_the_Members.{Members}
+use Rattle.array_fixed_invariant.specs.sb_specs_Reading.{is_clean}
+use Rattle.array_fixed_invariant.specs.sb_specs_the_Members.{Members}
 use Rattle.array_fixed_invariant.specs.history_the_StepKind_TheVariants.{Entered as EntersWindow}
-use Rattle.array_reshaping.specs.array_members_Lacking.{AreTooMany}
-use Rattle.array_reshaping.specs.reshape_request_the_Window_TheVariants.{Unsure}
-use Rattle.array_reshaping.specs.array_specs_Parts.{left_in}
-use Rattle.array_reshaping.proofs.array_reshaping_laws_BarredLaws.{alone-taken, barred-enter, refused-err, err-ok, err-any}
+use Rattle.array_fixed_invariant.specs.array_members_Lacking.{AreTooMany}
+use Rattle.array_type.specs.reshape_request_the_Window_TheVariants.{Unsure}
+use Rattle.array_type.specs.array_specs_Parts.{left_in}
+use Rattle.array_type.proofs.array_reshaping_laws_BarredLaws.{alone-taken, barred-enter, refused-err, err-ok, err-any}
 use Rattle.array_reshaping_steps.proofs.entering.enter_window.Goals as goal
 
 -- ---- a window is unsure
 
 pub clear-requires-clause-unsure : goal.clear-requires-clause-unsure
-clear-requires-clause-unsure g c = subst (λ p. (span : Span) × (p.course.window ≡ Unsure span)) c.moving.view_is (c.is_barred.ensures.yes c.if-is_barred.true).0
+clear-requires-clause-unsure g c =
+    subst (λ p. (span : Span) × (p.course.window ≡ Unsure span)) c.moving.view_is (c.is_barred.ensures.yes c.if-is_barred.true).0
 
 pub returns-then-is_barred-clause-entered : goal.returns-then-is_barred-clause-entered
 returns-then-is_barred-clause-entered g c =
@@ -43,3 +44,6 @@ returns-then-is_barred-clause-course g c = err-any c.clear.result (inl c.clear.e
 pub enter_sure-requires-clause-sure : goal.enter_sure-requires-clause-sure
 enter_sure-requires-clause-sure g c =
     subst (λ p. (span : Span) → p.course.window ≡ Unsure span → (refusal : Refusal) × AreTooMany p.parts.members refusal) c.moving.view_is (c.is_barred.ensures.no c.if-is_barred.false)
+
+pub returns-then-is_barred-clause-active : goal.returns-then-is_barred-clause-active
+returns-then-is_barred-clause-active g c = c.clear.ensures.active

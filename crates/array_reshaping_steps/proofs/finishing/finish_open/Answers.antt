@@ -1,53 +1,55 @@
 use Rattle.std.proofs.Common.{◌⊎◌, inl, ◌≤◌, ℕ, ◌-◌, ◌*◌, List, [], ◌∷◌, ◌++◌, take, Some, refl, sym, subst, arith, ◌∙◌, ap}
 use Rattle.std.specs.Vec.{with_items}
-use Rattle.array_reshaping.specs.sb_specs_Reading.{final_shape, list_length, is_clean}
+use Rattle.array_fixed_invariant.specs.sb_specs_Reading.{final_shape, list_length, is_clean, is_reshaping}
 use Rattle.array_fixed_invariant.specs.stripe_row_Rows.{present}
 use Rattle.array_fixed_invariant.specs.history_the_Event_TheVariants.{Refused, Step}
 use Rattle.array_fixed_invariant.specs.history_the_StepKind_TheVariants.{WindowFinished as FinishesWindow}
 use Rattle.array_fixed_invariant.specs.history_Plain.{entries_of}
-use Rattle.array_reshaping.specs.crash_views_Windows.{moved_past}
-use Rattle.array_reshaping.specs.array_members_Lacking.{AreTooMany, HaveRolesFailed}
-use Rattle.array_reshaping.specs.array_members_Numbers.{bears}
+use Rattle.array_fixed_invariant.specs.crash_views_Windows.{moved_past}
+use Rattle.array_fixed_invariant.specs.array_members_Lacking.{AreTooMany, HaveRolesFailed}
+use Rattle.array_fixed_invariant.specs.array_members_Numbers.{bears}
 use Rattle.array_fixed_invariant.proofs.array_members_LackingLaws.{never-both}
-use Rattle.array_reshaping.proofs.array_members_MovedLaws.{grows-none, moved-same}
+use Rattle.array_fixed_invariant.proofs.array_members_MovedLaws.{grows-none, moved-same}
 use Rattle.array_fixed_invariant.specs.history_append_Losing.{losses_of}
-use Rattle.array_reshaping.specs.array_call_specs_Kept.{scope_in}
-use Rattle.array_reshaping.proofs.array_call_specs_LossLaws.{losses-behind, ended-behind, behind-alone}
-use Rattle.array_reshaping.proofs.array_call_specs_ReadyLaws.{scope-same, list-same}
-use Rattle.array_reshaping.proofs.array_call_specs_ReplyLaws.{too-many-of, refused-for}
-use Rattle.array_reshaping.specs.history_invariant_Recorded.{IsCallGoing}
-use Rattle.array_reshaping.specs.history_invariant_Safe.{world_in}
-use Rattle.array_reshaping.specs.reshape_progress_the_Course.{Course}
-use Rattle.array_reshaping.specs.reshape_request_the_Window.{Window}
-use Rattle.array_reshaping.specs.reshape_progress_Course.{IsWindowOf}
-use Rattle.array_reshaping.specs.reshape_progress_resync_laws_Synced.{IsAside, IsUnsynced}
-use Rattle.array_reshaping.proofs.array_reshaping_state_ReshapeLaws.{window-reach, under-way-of}
-use Rattle.array_reshaping.proofs.array_reshaping_invariant_FinishedCall.{IsFinishedBy}
-use Rattle.array_reshaping.proofs.array_reshaping_invariant_Going.{going-on}
-use Rattle.array_reshaping.proofs.array_reshaping_invariant_Refusals.{quiet-refusal, refused-right}
-use Rattle.array_reshaping.proofs.array_reshaping_invariant_Resting.{resting-moves}
-use Rattle.array_reshaping.proofs.array_reshaping_invariant_Steps.{missing-since}
-use Rattle.array_reshaping.specs.array_reshaping_invariant_Moving.{IsWindowStanding}
-use Rattle.array_reshaping.specs.array_reshaping_state_Due.{open_in}
-use Rattle.array_reshaping.specs.array_specs_Parts.{left_in}
-use Rattle.array_reshaping.specs.array_reshaping_laws_Ready.{bytes_in}
-use Rattle.array_reshaping.specs.array_reshaping_laws_Writing.{IsWindowOpen}
-use Rattle.array_reshaping.proofs.array_specs_Called.{not_254, called, alone-lossless, many-of}
-use Rattle.array_reshaping.proofs.array_reshaping_laws_Kept.{ready, ready-moved, shapes-same, shapes-moved, behind-keeps, behind-whole, with-buffer}
-use Rattle.array_reshaping.proofs.array_reshaping_laws_RecordLaws.{moved-if, moved-none, shapes-past}
-use Rattle.array_reshaping.proofs.array_reshaping_laws_WriteLaws.{finish-relied, finished-missing, open-is, finish-left, finish-done, finish-stands, finish-refused, recorded-as}
+use Rattle.array_fixed_invariant.specs.array_call_specs_Kept.{scope_in}
+use Rattle.array_fixed_invariant.proofs.array_call_specs_LossLaws.{losses-behind, ended-behind, behind-alone}
+use Rattle.array_fixed_invariant.proofs.array_call_specs_ReadyLaws.{scope-same, list-same}
+use Rattle.array_fixed_invariant.proofs.array_call_specs_ReplyLaws.{too-many-of, refused-for}
+use Rattle.array_fixed_invariant.specs.history_invariant_Recorded.{IsCallGoing}
+use Rattle.array_fixed_invariant.specs.history_invariant_Safe.{world_in}
+use Rattle.array_type.specs.reshape_progress_the_Course.{Course}
+use Rattle.array_type.specs.reshape_request_the_Window.{Window}
+use Rattle.array_type.specs.reshape_progress_Course.{IsWindowOf}
+use Rattle.array_type.specs.reshape_progress_resync_laws_Synced.{IsAside, IsUnsynced}
+use Rattle.array_type.proofs.array_reshaping_state_ReshapeLaws.{window-reach, under-way-of}
+use Rattle.array_type.proofs.array_reshaping_invariant_FinishedCall.{IsFinishedBy}
+use Rattle.array_type.proofs.array_reshaping_invariant_Going.{going-on}
+use Rattle.array_type.proofs.array_reshaping_invariant_Refusals.{quiet-refusal, refused-right}
+use Rattle.array_type.proofs.array_reshaping_invariant_Resting.{resting-moves}
+use Rattle.array_type.proofs.array_reshaping_invariant_Steps.{missing-since}
+use Rattle.array_type.specs.array_reshaping_invariant_Moving.{IsWindowStanding}
+use Rattle.array_type.specs.array_reshaping_state_Due.{open_in}
+use Rattle.array_type.specs.array_specs_Parts.{left_in}
+use Rattle.array_type.specs.array_reshaping_laws_Ready.{bytes_in}
+use Rattle.array_type.specs.array_reshaping_laws_Writing.{IsWindowOpen}
+use Rattle.array_type.proofs.array_specs_Called.{not_254, called, alone-lossless, many-of}
+use Rattle.array_type.proofs.array_reshaping_laws_Kept.{ready, ready-moved, shapes-same, shapes-moved, behind-keeps, behind-whole, with-buffer}
+use Rattle.array_type.proofs.array_reshaping_laws_RecordLaws.{moved-if, moved-none, shapes-past}
+use Rattle.array_type.proofs.array_reshaping_laws_WriteLaws.{finish-relied, finished-missing, open-is, finish-left, finish-done, finish-stands, finish-refused, recorded-as}
 use Rattle.array_fixed_invariant.specs.reshape_request_Left.{phases_of}
-use Rattle.array_reshaping.specs.array_call_specs_Calls.{IsRefusedFor}
-use Rattle.array_reshaping.proofs.Calls.{room-49, one-less, many-refused, sound-same, closed-sure, never-falls, room-after-1, room-after-49, scratch-of, step-entered, called-over, zero-le}
-use Rattle.array_reshaping.specs.stripe_region_resync_Resyncs.{relied_sector}
-use Rattle.array_reshaping.proofs.array_specs_Lengths.{alone-keeps}
+use Rattle.array_fixed_invariant.specs.array_call_specs_Calls.{IsRefusedFor}
+use Rattle.array_type.proofs.ReshapingCalls.{room-49, one-less, many-refused, sound-same, closed-sure, never-falls, room-after-1, room-after-49, scratch-of, step-entered, called-over, zero-le}
+use Rattle.array_type.specs.stripe_region_resync_Resyncs.{relied_sector}
+use Rattle.array_type.proofs.array_specs_Lengths.{alone-keeps}
+use Rattle.array_type.proofs.Alike.{alike, goes-on}
 use Rattle.array_reshaping_steps.proofs.finishing.finish_open.Goals as goal
 
 -- ---- the members lack too many
 
 pub invariant_of-moving : goal.invariant_of-moving
 invariant_of-moving g c =
-    let was = c.moving.invariant in
+    goes-on (c.moving.invariant.moves (ap (λ p. is_reshaping p.parts.members.newest) c.moving.view_is ∙ c.requires.active)).0 (
+    let was = (c.moving.invariant.moves (ap (λ p. is_reshaping p.parts.members.newest) c.moving.view_is ∙ c.requires.active)).1 in
     let a = c.moving.inside in
     let given = g.B.Bank.given a.bank in
     let scope = scope_in given a.epoch.uuid a.epoch.given (Some a.backup) in
@@ -61,11 +63,11 @@ invariant_of-moving g c =
     (λ t right. refused-right (world_in given tape scope a.epoch.first) a.epoch.entries.items given a.members was.kept.members_are.placed (was.kept.gone t right) (was.kept.levelled t right) refusal c.in-Some.ensures) in
     ready (entries_of c.args.who end (Refused refusal ∷ [])) was (grows-none (λ t. refl)) (shapes-same a.members.newest) kept
     refl (never-falls _) (alone-keeps c.args.who end (Refused refusal) (λ n. refl) (λ limit. refl)) (λ none whole. whole) refl (scope-same given (Some a.backup) refl c.append_entry.ensures.uuid c.append_entry.ensures.given) c.append_entry.ensures.first refl c.append_entry.ensures.items
-    (room-after-1 a.steps a.epoch.entries.room c.append_entry.new.epoch.entries.room was.room_left c.append_entry.ensures.room steps)
+    (room-after-1 a.steps a.epoch.entries.room c.append_entry.new.epoch.entries.room was.room_left c.append_entry.ensures.room steps))
 
 pub returns-in-Some-clause-called : goal.returns-in-Some-clause-called
 returns-in-Some-clause-called g c =
-    let was = c.moving.invariant in
+    let was = (alike c.moving.invariant) in
     let a = c.moving.inside in
     let given = g.B.Bank.given a.bank in
     let faults = g.B.Bank.faults_of a.bank in
@@ -88,17 +90,17 @@ pub finish_rest-rest-requires-clause-next : goal.finish_rest-rest-requires-claus
 finish_rest-rest-requires-clause-next g c =
     let a = c.moving.inside in
     let due = open-is _ c.in-Entered.span c.in-Entered.copied c.in-Entered.sectioned (subst (λ p. IsWindowOpen p) (sym c.moving.view_is) c.requires.due) c.in-Entered.is in
-    (subst (λ (k : Course). IsWindowOf a.members.newest k.window) due c.moving.invariant.kept.course_is.window).0
+    (subst (λ (k : Course). IsWindowOf a.members.newest k.window) due (c.moving.invariant.moves (ap (λ p. is_reshaping p.parts.members.newest) c.moving.view_is ∙ c.requires.active)).1.kept.course_is.window).0
 
 pub finish_rest-rest-requires-clause-from : goal.finish_rest-rest-requires-clause-from
 finish_rest-rest-requires-clause-from g c =
     let a = c.moving.inside in
     let due = open-is _ c.in-Entered.span c.in-Entered.copied c.in-Entered.sectioned (subst (λ p. IsWindowOpen p) (sym c.moving.view_is) c.requires.due) c.in-Entered.is in
-    (subst (λ (k : Course). IsWindowOf a.members.newest k.window) due c.moving.invariant.kept.course_is.window).1
+    (subst (λ (k : Course). IsWindowOf a.members.newest k.window) due (c.moving.invariant.moves (ap (λ p. is_reshaping p.parts.members.newest) c.moving.view_is ∙ c.requires.active)).1.kept.course_is.window).1
 
 pub finish_rest-rest-requires-clause-wide : goal.finish_rest-rest-requires-clause-wide
 finish_rest-rest-requires-clause-wide g c =
-    let was = c.moving.invariant in
+    let was = (c.moving.invariant.moves (ap (λ p. is_reshaping p.parts.members.newest) c.moving.view_is ∙ c.requires.active)).1 in
     let a = c.moving.inside in
     let due = open-is _ c.in-Entered.span c.in-Entered.copied c.in-Entered.sectioned (subst (λ p. IsWindowOpen p) (sym c.moving.view_is) c.requires.due) c.in-Entered.is in
     let window = (subst (λ (k : Course). IsWindowOf a.members.newest k.window) due was.kept.course_is.window).0 in
@@ -110,7 +112,8 @@ finish_rest-rest-requires-clause-wide g c =
 
 pub invariant_of-moving-in-Some-refusal : goal.invariant_of-moving-in-Some-refusal
 invariant_of-moving-in-Some-refusal g c =
-    let was = c.moving.invariant in
+    goes-on (c.moving.invariant.moves (ap (λ p. is_reshaping p.parts.members.newest) c.moving.view_is ∙ c.requires.active)).0 (
+    let was = (c.moving.invariant.moves (ap (λ p. is_reshaping p.parts.members.newest) c.moving.view_is ∙ c.requires.active)).1 in
     let a = c.moving.inside in
     let given = g.B.Bank.given a.bank in
     let scope = scope_in given a.epoch.uuid a.epoch.given (Some a.backup) in
@@ -150,11 +153,11 @@ invariant_of-moving-in-Some-refusal g c =
     (ready (entries_of c.args.who end (losses_of roles spares ++ Refused refusal ∷ [])) was did.bank.grows (shapes-moved given a.members m moved) kept
     refl did.bank.counts (behind-keeps c.args.who end roles spares (Refused refusal) (λ n. refl) (λ limit. refl))
     (behind-whole tape' scope a.epoch.first a.epoch.entries.items c.args.who end roles spares (Refused refusal) moved (missing-since roles moved did.since.vacant)) did.bank.same (scope-same given (Some a.backup) did.bank.same c.append_after_losses.ensures.uuid c.append_after_losses.ensures.given) c.append_after_losses.ensures.first refl c.append_after_losses.ensures.items
-    (room-after-49 a.steps a.epoch.entries.room c.append_after_losses.new.epoch.entries.room was.room_left c.append_after_losses.ensures.room steps))
+    (room-after-49 a.steps a.epoch.entries.room c.append_after_losses.new.epoch.entries.room was.room_left c.append_after_losses.ensures.room steps)))
 
 pub returns-in-Some-refusal-clause-called : goal.returns-in-Some-refusal-clause-called
 returns-in-Some-refusal-clause-called g c =
-    let was = c.moving.invariant in
+    let was = (alike c.moving.invariant) in
     let a = c.moving.inside in
     let given = g.B.Bank.given a.bank in
     let m = c.finish_rest-rest.new.members in
@@ -184,7 +187,8 @@ returns-in-Some-refusal-clause-caused g c =
 
 pub invariant_of-moving-2 : goal.invariant_of-moving-2
 invariant_of-moving-2 g c =
-    let was = c.moving.invariant in
+    goes-on (c.moving.invariant.moves (ap (λ p. is_reshaping p.parts.members.newest) c.moving.view_is ∙ c.requires.active)).0 (
+    let was = (c.moving.invariant.moves (ap (λ p. is_reshaping p.parts.members.newest) c.moving.view_is ∙ c.requires.active)).1 in
     let a = c.moving.inside in
     let given = g.B.Bank.given a.bank in
     let scope = scope_in given a.epoch.uuid a.epoch.given (Some a.backup) in
@@ -197,7 +201,7 @@ invariant_of-moving-2 g c =
     let roles = c.finish_rest-rest.result.roles in
     let spares = c.finish_rest-rest.result.spares in
     let end = c.ops-end-2.result in
-    let left = c.all_left-left.result in
+    let left = c.left_in_reshape-left.result in
     let none = c.in_default-refusal.is in
     let span = c.in-Entered.span in
     let due = open-is _ span c.in-Entered.copied c.in-Entered.sectioned (subst (λ p. IsWindowOpen p) (sym c.moving.view_is) c.requires.due) c.in-Entered.is in
@@ -219,17 +223,17 @@ invariant_of-moving-2 g c =
     let kept = finish-done a.course a.ahead a.window.items span c.in-Entered.copied c.finish_rest-rest.result.copied c.in-Entered.sectioned c.args.who end roles spares was.kept due goes c.requires.caller c.ops-end-2.ensures.count
     did.bank.grows c.in_default.ensures c.finish_rest-rest.result.refusal
     (subst (λ (l : List ℕ). IsFinishedBy g.B.Bank.tells given tape tape' a.members m (final_shape a.members.newest) span c.in-Entered.copied c.finish_rest-rest.result.copied (take (512 * (span.hi - span.lo)) l) roles c.finish_rest-rest.result.refusal) c.as_slice.ensures.value by)
-    left none c.all_left-left.ensures in
+    left none c.left_in_reshape-left.ensures in
     let moved = moved-none given span a.members m c.finish_rest-rest.result.refusal none did.moved in
     with-buffer (let len = (with_items a.buffer c.finish_rest-rest.new.scratch).ok.0 in let ok = a.buffer.ok.0 in omega (arith, len, ok, was.buffer_fits))
     (ready-moved (entries_of c.args.who end (losses_of roles spares ++ Step FinishesWindow left ∷ [])) was did.bank.grows (shapes-past given a.members m span moved) kept (λ next is. closed-sure next is)
     refl did.bank.counts (behind-keeps c.args.who end roles spares (Step FinishesWindow left) (λ n. refl) (λ limit. refl))
     (behind-whole {old = moved_past span a.members} tape' scope a.epoch.first a.epoch.entries.items c.args.who end roles spares (Step FinishesWindow left) moved (missing-since {old = moved_past span a.members} roles moved did.since.vacant)) did.bank.same (scope-same given (Some a.backup) did.bank.same c.append_after_losses-2.ensures.uuid c.append_after_losses-2.ensures.given) c.append_after_losses-2.ensures.first refl c.append_after_losses-2.ensures.items
-    (room-after-49 a.steps a.epoch.entries.room c.append_after_losses-2.new.epoch.entries.room was.room_left c.append_after_losses-2.ensures.room steps))
+    (room-after-49 a.steps a.epoch.entries.room c.append_after_losses-2.new.epoch.entries.room was.room_left c.append_after_losses-2.ensures.room steps)))
 
 pub returns-clause-stood : goal.returns-clause-stood
 returns-clause-stood g c =
-    let was = c.moving.invariant in
+    let was = (c.moving.invariant.moves (ap (λ p. is_reshaping p.parts.members.newest) c.moving.view_is ∙ c.requires.active)).1 in
     let a = c.moving.inside in
     let given = g.B.Bank.given a.bank in
     let scope = scope_in given a.epoch.uuid a.epoch.given (Some a.backup) in
@@ -242,7 +246,7 @@ returns-clause-stood g c =
     let roles = c.finish_rest-rest.result.roles in
     let spares = c.finish_rest-rest.result.spares in
     let end = c.ops-end-2.result in
-    let left = c.all_left-left.result in
+    let left = c.left_in_reshape-left.result in
     let none = c.in_default-refusal.is in
     let span = c.in-Entered.span in
     let epoch = c.append_after_losses-2.new.epoch in
@@ -265,23 +269,23 @@ returns-clause-stood g c =
     let stands = finish-stands a.course a.ahead a.window.items span c.in-Entered.copied c.finish_rest-rest.result.copied c.in-Entered.sectioned c.args.who end roles spares was.kept due goes c.requires.caller c.ops-end-2.ensures.count
     did.bank.grows c.in_default.ensures c.finish_rest-rest.result.refusal
     (subst (λ (l : List ℕ). IsFinishedBy g.B.Bank.tells given tape tape' a.members m (final_shape a.members.newest) span c.in-Entered.copied c.finish_rest-rest.result.copied (take (512 * (span.hi - span.lo)) l) roles c.finish_rest-rest.result.refusal) c.as_slice.ensures.value by)
-    left none c.all_left-left.ensures in
+    left none c.left_in_reshape-left.ensures in
     rw (← c.moving.view_is) (λ t.
     subst (λ (w : Window). IsWindowStanding (open_in w) (world_in given' tape' (scope_in given' epoch.uuid epoch.given (Some a.backup)) epoch.first) epoch.entries.items m (present given' tape')) (sym c.in-Entered.is)
     (recorded-as (Some span) tape' m did.bank.same (scope-same given (Some a.backup) did.bank.same c.append_after_losses-2.ensures.uuid c.append_after_losses-2.ensures.given) c.append_after_losses-2.ensures.first c.append_after_losses-2.ensures.items (stands t)))
 
 pub returns-clause-goes : goal.returns-clause-goes
 returns-clause-goes g c =
-    let was = c.moving.invariant in
+    let was = (alike c.moving.invariant) in
     let a = c.moving.inside in
     let goes : IsCallGoing a.epoch.entries.items c.args.who = subst (λ p. IsCallGoing p.parts.entries c.args.who) (sym c.moving.view_is) c.requires.open in
     let roles = c.finish_rest-rest.result.roles in
     let spares = c.finish_rest-rest.result.spares in
-    subst (λ l. IsCallGoing l c.args.who) (sym c.append_after_losses-2.ensures.items) (going-on a.epoch.entries.items c.args.who c.ops-end-2.result roles spares (Step FinishesWindow c.all_left-left.result) goes tt)
+    subst (λ l. IsCallGoing l c.args.who) (sym c.append_after_losses-2.ensures.items) (going-on a.epoch.entries.items c.args.who c.ops-end-2.result roles spares (Step FinishesWindow c.left_in_reshape-left.result) goes tt)
 
 pub returns-clause-called : goal.returns-clause-called
 returns-clause-called g c =
-    let was = c.moving.invariant in
+    let was = (alike c.moving.invariant) in
     let a = c.moving.inside in
     let given = g.B.Bank.given a.bank in
     let scope = scope_in given a.epoch.uuid a.epoch.given (Some a.backup) in
@@ -292,7 +296,7 @@ returns-clause-called g c =
     let roles = c.finish_rest-rest.result.roles in
     let spares = c.finish_rest-rest.result.spares in
     let end = c.ops-end-2.result in
-    let event = Step FinishesWindow c.all_left-left.result in
+    let event = Step FinishesWindow c.left_in_reshape-left.result in
     let moved = moved-none given c.in-Entered.span a.members m c.finish_rest-rest.result.refusal c.in_default-refusal.is did.moved in
     called-over g.B.Bank.given g.B.Bank.tape g.B.Bank.faults_of c.moving.view_is (record {
       grows = did.bank.grows;
@@ -321,7 +325,8 @@ returns-clause-called g c =
     })
 
 pub returns-clause-caused : goal.returns-clause-caused
-returns-clause-caused g c = rw (← c.moving.view_is) (zero-le _, λ refusal many. never-both c.moving.inside.members refusal c.in_default.ensures many)
+returns-clause-caused g c =
+    rw (← c.moving.view_is) (zero-le _, λ refusal many. never-both c.moving.inside.members refusal c.in_default.ensures many)
 
 -- ---- what failed, and what is left
 
@@ -329,10 +334,12 @@ pub returns-in-Some-clause-failed : goal.returns-in-Some-clause-failed
 returns-in-Some-clause-failed g c = rw (← c.moving.view_is) (λ role slot held. inl held)
 
 pub returns-in-Some-refusal-clause-failed : goal.returns-in-Some-refusal-clause-failed
-returns-in-Some-refusal-clause-failed g c = subst (λ p. HaveRolesFailed p.parts.members c.finish_rest-rest.new.members (g.B.Bank.faults_of p.parts.bank) (g.B.Bank.faults_of c.finish_rest-rest.new.bank)) c.moving.view_is c.finish_rest-rest.ensures.failed.roles
+returns-in-Some-refusal-clause-failed g c =
+    subst (λ p. HaveRolesFailed p.parts.members c.finish_rest-rest.new.members (g.B.Bank.faults_of p.parts.bank) (g.B.Bank.faults_of c.finish_rest-rest.new.bank)) c.moving.view_is c.finish_rest-rest.ensures.failed.roles
 
 pub returns-clause-failed : goal.returns-clause-failed
-returns-clause-failed g c = subst (λ p. HaveRolesFailed p.parts.members c.finish_rest-rest.new.members (g.B.Bank.faults_of p.parts.bank) (g.B.Bank.faults_of c.finish_rest-rest.new.bank)) c.moving.view_is c.finish_rest-rest.ensures.failed.roles
+returns-clause-failed g c =
+    subst (λ p. HaveRolesFailed p.parts.members c.finish_rest-rest.new.members (g.B.Bank.faults_of p.parts.bank) (g.B.Bank.faults_of c.finish_rest-rest.new.bank)) c.moving.view_is c.finish_rest-rest.ensures.failed.roles
 
 pub returns-clause-left : goal.returns-clause-left
 returns-clause-left g c =
@@ -341,7 +348,7 @@ returns-clause-left g c =
     let span = c.in-Entered.span in
     let due = open-is _ span c.in-Entered.copied c.in-Entered.sectioned (subst (λ p. IsWindowOpen p) (sym c.moving.view_is) c.requires.due) c.in-Entered.is in
     rw (← c.moving.view_is) (finish-left (g.B.Bank.given a.bank) a.members m a.work.resync a.course a.ahead span c.in-Entered.copied c.in-Entered.sectioned due
-    (moved-none (g.B.Bank.given a.bank) span a.members m c.finish_rest-rest.result.refusal c.in_default-refusal.is c.finish_rest-rest.ensures.moved) c.moving.invariant.kept.members_are.active)
+    (moved-none (g.B.Bank.given a.bank) span a.members m c.finish_rest-rest.result.refusal c.in_default-refusal.is c.finish_rest-rest.ensures.moved) (c.moving.invariant.moves (ap (λ p. is_reshaping p.parts.members.newest) c.moving.view_is ∙ c.requires.active)).1.kept.members_are.active)
 
 pub returns-clause-relied : goal.returns-clause-relied
 returns-clause-relied g c =
@@ -349,7 +356,7 @@ returns-clause-relied g c =
     let m = c.finish_rest-rest.new.members in
     let span = c.in-Entered.span in
     let given = g.B.Bank.given a.bank in
-    let kept = c.moving.invariant.kept in
+    let kept = (c.moving.invariant.moves (ap (λ p. is_reshaping p.parts.members.newest) c.moving.view_is ∙ c.requires.active)).1.kept in
     finish-relied given a.members m a.work.resync span kept.members_are.placed (moved-none given span a.members m c.finish_rest-rest.result.refusal c.in_default-refusal.is c.finish_rest-rest.ensures.moved)
     (subst (λ (w : Window). IsAside w ⊎ IsUnsynced a.work.resync) c.in-Entered.is kept.beside) ∙ ap (λ p. relied_sector p.parts.members.newest p.parts.work.resync) c.moving.view_is
 
@@ -364,19 +371,24 @@ returns-in-Some-clause-caused g c =
     subst (λ p. IsRefusedFor (list_length p.parts.members.newest) 0 AreTooMany p.parts.members a.members c.in-Some.refusal) c.moving.view_is (many-refused a.members c.in-Some.refusal c.in-Some.ensures)
 
 pub returns-in-Some-clause-room : goal.returns-in-Some-clause-room
-returns-in-Some-clause-room g c = one-less c.moving.inside.steps (subst (λ p. 1 ≤ p.parts.steps) (sym c.moving.view_is) c.requires.room) ∙ ap (λ p. p.parts.steps) c.moving.view_is
+returns-in-Some-clause-room g c =
+    one-less c.moving.inside.steps (subst (λ p. 1 ≤ p.parts.steps) (sym c.moving.view_is) c.requires.room) ∙ ap (λ p. p.parts.steps) c.moving.view_is
 
 pub returns-in-Some-refusal-clause-room : goal.returns-in-Some-refusal-clause-room
-returns-in-Some-refusal-clause-room g c = one-less c.moving.inside.steps (subst (λ p. 1 ≤ p.parts.steps) (sym c.moving.view_is) c.requires.room) ∙ ap (λ p. p.parts.steps) c.moving.view_is
+returns-in-Some-refusal-clause-room g c =
+    one-less c.moving.inside.steps (subst (λ p. 1 ≤ p.parts.steps) (sym c.moving.view_is) c.requires.room) ∙ ap (λ p. p.parts.steps) c.moving.view_is
 
 pub returns-clause-room : goal.returns-clause-room
-returns-clause-room g c = one-less c.moving.inside.steps (subst (λ p. 1 ≤ p.parts.steps) (sym c.moving.view_is) c.requires.room) ∙ ap (λ p. p.parts.steps) c.moving.view_is
+returns-clause-room g c =
+    one-less c.moving.inside.steps (subst (λ p. 1 ≤ p.parts.steps) (sym c.moving.view_is) c.requires.room) ∙ ap (λ p. p.parts.steps) c.moving.view_is
 
 pub append_after_losses-requires-clause-room : goal.append_after_losses-requires-clause-room
-append_after_losses-requires-clause-room g c = room-49 c.moving.inside.steps c.moving.inside.epoch.entries.room (subst (λ p. 1 ≤ p.parts.steps) (sym c.moving.view_is) c.requires.room) c.moving.invariant.room_left
+append_after_losses-requires-clause-room g c =
+    room-49 c.moving.inside.steps c.moving.inside.epoch.entries.room (subst (λ p. 1 ≤ p.parts.steps) (sym c.moving.view_is) c.requires.room) (alike c.moving.invariant).room_left
 
 pub append_after_losses-requires-2-clause-room : goal.append_after_losses-requires-2-clause-room
-append_after_losses-requires-2-clause-room g c = room-49 c.moving.inside.steps c.moving.inside.epoch.entries.room (subst (λ p. 1 ≤ p.parts.steps) (sym c.moving.view_is) c.requires.room) c.moving.invariant.room_left
+append_after_losses-requires-2-clause-room g c =
+    room-49 c.moving.inside.steps c.moving.inside.epoch.entries.room (subst (λ p. 1 ≤ p.parts.steps) (sym c.moving.view_is) c.requires.room) (alike c.moving.invariant).room_left
 
 pub append_after_losses-requires-clause-number : goal.append_after_losses-requires-clause-number
 append_after_losses-requires-clause-number g c = c.check_going.ensures
@@ -388,17 +400,20 @@ pub append_entry-requires-clause-number : goal.append_entry-requires-clause-numb
 append_entry-requires-clause-number g c = c.check_going.ensures
 
 pub returns-in-Some-refusal-clause-entered : goal.returns-in-Some-refusal-clause-entered
-returns-in-Some-refusal-clause-entered g c = rw (← c.moving.view_is) (record { roles = c.finish_rest-rest.result.roles; spares = c.finish_rest-rest.result.spares; end = c.ops-end-2.result; is = c.append_after_losses.ensures.items })
+returns-in-Some-refusal-clause-entered g c =
+    rw (← c.moving.view_is) (record { roles = c.finish_rest-rest.result.roles; spares = c.finish_rest-rest.result.spares; end = c.ops-end-2.result; is = c.append_after_losses.ensures.items })
 
 pub returns-clause-entered : goal.returns-clause-entered
-returns-clause-entered g c = step-entered c.finish_rest-rest.result.roles c.finish_rest-rest.result.spares c.ops-end-2.result c.append_after_losses-2.ensures.items c.all_left-left.ensures (ap (λ p. p.parts.entries) c.moving.view_is)
+returns-clause-entered g c =
+    step-entered c.finish_rest-rest.result.roles c.finish_rest-rest.result.spares c.ops-end-2.result c.append_after_losses-2.ensures.items c.left_in_reshape-left.ensures (ap (λ p. p.parts.entries) c.moving.view_is)
 
 pub finish_rest-rest-requires-clause-stands : goal.finish_rest-rest-requires-clause-stands
-finish_rest-rest-requires-clause-stands g c = record {
-  slots = c.moving.invariant.kept.slots;
-  placed = c.moving.invariant.kept.members_are.placed;
-  unlost = c.moving.invariant.kept.members_are.unlost;
-  free = c.moving.invariant.kept.members_are.free;
+finish_rest-rest-requires-clause-stands g c =
+    record {
+  slots = (alike c.moving.invariant).kept.slots;
+  placed = (alike c.moving.invariant).kept.members_are.placed;
+  unlost = (alike c.moving.invariant).kept.members_are.unlost;
+  free = (alike c.moving.invariant).kept.members_are.free;
 }
 
 pub returns-in-Some-refusal-clause-given : goal.returns-in-Some-refusal-clause-given
@@ -425,21 +440,31 @@ returns-in-Some-refusal-clause-clean g c = c.finish_rest-rest.ensures.clean ∙ 
 pub returns-clause-clean : goal.returns-clause-clean
 returns-clause-clean g c = c.finish_rest-rest.ensures.clean ∙ ap (λ p. is_clean p.parts.members.newest) c.moving.view_is
 
-pub all_left-left-requires-clause-reshape : goal.all_left-left-requires-clause-reshape
-all_left-left-requires-clause-reshape g c =
+pub left_in_reshape-left-requires-clause-reshape : goal.left_in_reshape-left-requires-clause-reshape
+left_in_reshape-left-requires-clause-reshape g c =
     let moved = moved-none (g.B.Bank.given c.moving.inside.bank) c.in-Entered.span c.moving.inside.members c.finish_rest-rest.new.members c.finish_rest-rest.result.refusal c.in_default-refusal.is c.finish_rest-rest.ensures.moved in
-    under-way-of c.finish_rest-rest.new.members.newest moved.placed.fit (moved.reshape.reshaping ∙ c.moving.invariant.kept.members_are.active)
+    under-way-of c.finish_rest-rest.new.members.newest moved.placed.fit (moved.reshape.reshaping ∙ (c.moving.invariant.moves (ap (λ p. is_reshaping p.parts.members.newest) c.moving.view_is ∙ c.requires.active)).1.kept.members_are.active)
 
-pub all_left-left-requires-clause-fit : goal.all_left-left-requires-clause-fit
-all_left-left-requires-clause-fit g c =
+pub left_in_reshape-left-requires-clause-fit : goal.left_in_reshape-left-requires-clause-fit
+left_in_reshape-left-requires-clause-fit g c =
     let moved = moved-none (g.B.Bank.given c.moving.inside.bank) c.in-Entered.span c.moving.inside.members c.finish_rest-rest.new.members c.finish_rest-rest.result.refusal c.in_default-refusal.is c.finish_rest-rest.ensures.moved in
     moved.placed.fit
 
-pub all_left-left-requires-clause-sound : goal.all_left-left-requires-clause-sound
-all_left-left-requires-clause-sound g c = sound-same (phases_of c.moving.inside.ahead) (shapes-past (g.B.Bank.given c.moving.inside.bank) c.moving.inside.members c.finish_rest-rest.new.members c.in-Entered.span (moved-none (g.B.Bank.given c.moving.inside.bank) c.in-Entered.span c.moving.inside.members c.finish_rest-rest.new.members c.finish_rest-rest.result.refusal c.in_default-refusal.is c.finish_rest-rest.ensures.moved)) c.moving.invariant.planned
+pub left_in_reshape-left-requires-clause-sound : goal.left_in_reshape-left-requires-clause-sound
+left_in_reshape-left-requires-clause-sound g c =
+    sound-same (phases_of c.moving.inside.ahead) (shapes-past (g.B.Bank.given c.moving.inside.bank) c.moving.inside.members c.finish_rest-rest.new.members c.in-Entered.span (moved-none (g.B.Bank.given c.moving.inside.bank) c.in-Entered.span c.moving.inside.members c.finish_rest-rest.new.members c.finish_rest-rest.result.refusal c.in_default-refusal.is c.finish_rest-rest.ensures.moved)) (c.moving.invariant.moves (ap (λ p. is_reshaping p.parts.members.newest) c.moving.view_is ∙ c.requires.active)).1.planned
 
 pub overflow_sub-moving : goal.overflow_sub-moving
 overflow_sub-moving g c = subst (λ p. 1 ≤ p.parts.steps) (sym c.moving.view_is) c.requires.room
 
 pub finish_rest-rest-requires-clause-scratch : goal.finish_rest-rest-requires-clause-scratch
-finish_rest-rest-requires-clause-scratch g c = scratch-of _ _ c.as_mut_slice.ensures.value c.moving.invariant.buffer_fits
+finish_rest-rest-requires-clause-scratch g c = scratch-of _ _ c.as_mut_slice.ensures.value (alike c.moving.invariant).buffer_fits
+
+pub returns-in-Some-clause-active : goal.returns-in-Some-clause-active
+returns-in-Some-clause-active g c = (ap (λ p. is_reshaping p.parts.members.newest) c.moving.view_is ∙ c.requires.active)
+
+pub returns-in-Some-refusal-clause-active : goal.returns-in-Some-refusal-clause-active
+returns-in-Some-refusal-clause-active g c = c.finish_rest-rest.ensures.moved.reshape.reshaping ∙ (ap (λ p. is_reshaping p.parts.members.newest) c.moving.view_is ∙ c.requires.active)
+
+pub returns-clause-active : goal.returns-clause-active
+returns-clause-active g c = c.finish_rest-rest.ensures.moved.reshape.reshaping ∙ (ap (λ p. is_reshaping p.parts.members.newest) c.moving.view_is ∙ c.requires.active)

@@ -1,14 +1,14 @@
 use Rattle.std.proofs.Common.{◌≤◌, sym, ◌∙◌, ap, subst, arith}
 use Rattle.array_fixed_invariant.specs.raid_types_the_Shape.{Shape}
-use Rattle.array_reshaping.specs.reshape_geometry_Geometry.{stripes}
-use Rattle.array_reshaping.specs.sb_specs_Reading.{final_shape}
+use Rattle.array_type.specs.reshape_geometry_Geometry.{stripes}
+use Rattle.array_fixed_invariant.specs.sb_specs_Reading.{final_shape}
 use Rattle.array_fixed_invariant.proofs.sb_specs_ValidFields.{few-roles}
 use Rattle.array_fixed_invariant.specs.stripe_row_Rows.{reading_of, present}
-use Rattle.array_reshaping.proofs.crash_views_Stands.{span-order}
-use Rattle.array_reshaping.specs.array_members_Lacking.{AreOtherRowsKept}
-use Rattle.array_reshaping.specs.reshape_window_io_Finishing.{IsOfRest, AreStripesCopied}
-use Rattle.array_reshaping.proofs.array_reshaping_laws_WriteLaws.{finished-since}
-use Rattle.array_reshaping.proofs.Calls.{known-finished}
+use Rattle.array_fixed_invariant.proofs.crash_views_Stands.{span-order}
+use Rattle.array_fixed_invariant.specs.array_members_Lacking.{AreOtherRowsKept}
+use Rattle.array_type.specs.reshape_window_io_Finishing.{IsOfRest, AreStripesCopied}
+use Rattle.array_type.proofs.array_reshaping_laws_WriteLaws.{finished-since}
+use Rattle.array_type.proofs.ReshapingCalls.{known-finished}
 use Rattle.array_reshaping_steps.proofs.finishing.finish_rest.Goals as goal
 
 pub overflow_cast-count : goal.overflow_cast-count
@@ -46,10 +46,12 @@ returns-clause-since g c =
     c.requires.stands.placed c.requires.next c.finish_window-done.ensures.failed (c.len-count.ensures ∙ c.requires.stands.placed.roles) c.unassigned_roles-before.ensures c.newly_unassigned.ensures
 
 pub returns-clause-all : goal.returns-clause-all
-returns-clause-all g c = λ none. c.finish_window-done.ensures.all none ∙ ap (λ (s : Shape). stripes s c.args.span.now.lo c.args.span.now.hi) c.final_in-shape.ensures
+returns-clause-all g c =
+    λ none. c.finish_window-done.ensures.all none ∙ ap (λ (s : Shape). stripes s c.args.span.now.lo c.args.span.now.hi) c.final_in-shape.ensures
 
 pub returns-clause-stands : goal.returns-clause-stands
-returns-clause-stands g c = λ t list copied written.
+returns-clause-stands g c =
+    λ t list copied written.
     let m = c.args.members.now in
     let span = c.args.span.now in
     let new = c.finish_window-done.new.members in
@@ -61,7 +63,8 @@ returns-clause-stands g c = λ t list copied written.
     (subst (λ (s : Shape). AreStripesCopied s span c.args.from m before list) (sym {b = final_shape c.args.members.now.newest} c.final_in-shape.ensures) written))
 
 pub returns-clause-others : goal.returns-clause-others
-returns-clause-others g c = λ t.
+returns-clause-others g c =
+    λ t.
     let new = c.finish_window-done.new.members in
     let given = g.B.Bank.given c.args.bank.now in
     let before = present given (g.B.Bank.tape c.args.bank.now) in
@@ -71,7 +74,8 @@ returns-clause-others g c = λ t.
 -- ---- by what stands above
 
 pub newly_unassigned-requires-clause-known : goal.newly_unassigned-requires-clause-known
-newly_unassigned-requires-clause-known g c = known-finished _ c.args.span.now _ _ c.len-count.result c.finish_window-done.result.refusal c.finish_window-done.ensures.moved c.len-count.ensures c.requires.stands.placed.roles
+newly_unassigned-requires-clause-known g c =
+    known-finished _ c.args.span.now _ _ c.len-count.result c.finish_window-done.result.refusal c.finish_window-done.ensures.moved c.len-count.ensures c.requires.stands.placed.roles
 
 pub returns-clause-bank : goal.returns-clause-bank
 returns-clause-bank g c = c.finish_window-done.ensures.bank

@@ -2,45 +2,47 @@ use Rattle.std.proofs.Common.{None, ◌≡◌, ◌+◌, ◌≤◌, ◌<◌, List
 use Rattle.std.specs.Vec.{with_items}
 use Rattle.std.proofs.Math.Nat.{div-le_self}
 use Rattle.array_fixed_invariant.specs.raid_types_the_Shape.{Shape}
-use Rattle.array_reshaping.specs.sb_specs_Reading.{final_shape, list_length, is_clean}
+use Rattle.array_fixed_invariant.specs.sb_specs_Reading.{final_shape, list_length, is_clean, is_reshaping}
 use Rattle.array_fixed_invariant.proofs.sb_specs_ValidFields.{few-roles}
 use Rattle.array_fixed_invariant.specs.history_the_Event_TheVariants.{Refused, Step}
 use Rattle.array_fixed_invariant.specs.history_the_StepKind_TheVariants.{Zeroed as ZeroesStripe}
 use Rattle.array_fixed_invariant.specs.history_Plain.{entries_of}
-use Rattle.array_reshaping.specs.array_members_Lacking.{AreTooMany}
-use Rattle.array_reshaping.proofs.array_members_Fit.{fit-short}
+use Rattle.array_fixed_invariant.specs.array_members_Lacking.{AreTooMany}
+use Rattle.array_fixed_invariant.proofs.array_members_Fit.{fit-short}
 use Rattle.array_fixed_invariant.proofs.array_members_LackingLaws.{lost-since, never-both}
-use Rattle.array_reshaping.proofs.array_members_MovedLaws.{grows-none, moved-same}
+use Rattle.array_fixed_invariant.proofs.array_members_MovedLaws.{grows-none, moved-same}
 use Rattle.array_fixed_invariant.specs.history_append_Losing.{losses_of}
-use Rattle.array_reshaping.specs.array_call_specs_Kept.{scope_in}
-use Rattle.array_reshaping.proofs.array_call_specs_LossLaws.{losses-behind, ended-behind, behind-alone}
-use Rattle.array_reshaping.proofs.array_call_specs_ReadyLaws.{scope-same}
-use Rattle.array_reshaping.proofs.array_call_specs_ReplyLaws.{refused-for, too-many-of}
+use Rattle.array_fixed_invariant.specs.array_call_specs_Kept.{scope_in}
+use Rattle.array_fixed_invariant.proofs.array_call_specs_LossLaws.{losses-behind, ended-behind, behind-alone}
+use Rattle.array_fixed_invariant.proofs.array_call_specs_ReadyLaws.{scope-same}
+use Rattle.array_fixed_invariant.proofs.array_call_specs_ReplyLaws.{refused-for, too-many-of}
 use Rattle.array_fixed_invariant.specs.reshape_request_Left.{zeroed_by, phases_of, IsWindowRight}
-use Rattle.array_reshaping.specs.reshape_progress_the_Course.{Course}
-use Rattle.array_reshaping.specs.history_invariant_Recorded.{IsCallGoing}
-use Rattle.array_reshaping.specs.history_invariant_Safe.{world_in}
-use Rattle.array_reshaping.specs.array_members_Numbers.{bears}
-use Rattle.array_reshaping.proofs.array_reshaping_invariant_Refusals.{quiet-refusal, refused-right}
-use Rattle.array_reshaping.proofs.array_reshaping_invariant_Resting.{resting-moves}
-use Rattle.array_reshaping.proofs.array_reshaping_invariant_Steps.{missing-since}
-use Rattle.array_reshaping.proofs.array_reshaping_state_ReshapeLaws.{through-of}
-use Rattle.array_reshaping.specs.array_specs_Calls.{IsZeroDue}
-use Rattle.array_reshaping.specs.array_specs_Parts.{left_in}
-use Rattle.array_reshaping.specs.array_reshaping_laws_Ready.{bytes_in}
-use Rattle.array_reshaping.proofs.array_specs_Called.{not_254, called, alone-lossless, many-of}
-use Rattle.array_reshaping.proofs.array_reshaping_laws_Kept.{ready, shapes-same, shapes-moved, behind-keeps, behind-whole, with-buffer, live-of}
-use Rattle.array_reshaping.proofs.array_reshaping_laws_ZeroLaws.{closed-at, zero-step, rows-zeroed, zero-refused, zero-done, zero-left}
-use Rattle.array_reshaping.specs.reshape_window_rows_Copies.{IsPastStripe}
-use Rattle.array_reshaping.proofs.StepLaws.{one-fewer, room-behind, next-within, scratch-for, taken-behind, under-way-moved, zeroed-moved, sound-moved, roles-moved}
-use Rattle.array_reshaping.proofs.array_specs_Lengths.{alone-keeps}
+use Rattle.array_type.specs.reshape_progress_the_Course.{Course}
+use Rattle.array_fixed_invariant.specs.history_invariant_Recorded.{IsCallGoing}
+use Rattle.array_fixed_invariant.specs.history_invariant_Safe.{world_in}
+use Rattle.array_fixed_invariant.specs.array_members_Numbers.{bears}
+use Rattle.array_type.proofs.array_reshaping_invariant_Refusals.{quiet-refusal, refused-right}
+use Rattle.array_type.proofs.array_reshaping_invariant_Resting.{resting-moves}
+use Rattle.array_type.proofs.array_reshaping_invariant_Steps.{missing-since}
+use Rattle.array_type.proofs.array_reshaping_state_ReshapeLaws.{through-of}
+use Rattle.array_type.specs.array_specs_Calls.{IsZeroDue}
+use Rattle.array_type.specs.array_specs_Parts.{left_in}
+use Rattle.array_type.specs.array_reshaping_laws_Ready.{bytes_in}
+use Rattle.array_type.proofs.array_specs_Called.{not_254, called, alone-lossless, many-of}
+use Rattle.array_type.proofs.array_reshaping_laws_Kept.{ready, shapes-same, shapes-moved, behind-keeps, behind-whole, with-buffer, live-of}
+use Rattle.array_type.proofs.array_reshaping_laws_ZeroLaws.{closed-at, zero-step, rows-zeroed, zero-refused, zero-done, zero-left}
+use Rattle.array_type.specs.reshape_window_rows_Copies.{IsPastStripe}
+use Rattle.array_type.proofs.StepLaws.{one-fewer, room-behind, next-within, scratch-for, taken-behind, under-way-moved, zeroed-moved, sound-moved, roles-moved}
+use Rattle.array_type.proofs.array_specs_Lengths.{alone-keeps}
+use Rattle.array_type.proofs.Alike.{alike, goes-on}
 use Rattle.array_reshaping_steps.proofs.zeroing.zero_stripe.Goals as goal
 
 -- ---- refused before anything is done
 
 pub invariant_of-moving : goal.invariant_of-moving
 invariant_of-moving g c =
-    let was = c.moving.invariant in
+    goes-on (c.moving.invariant.moves (ap (λ p. is_reshaping p.parts.members.newest) c.moving.view_is ∙ c.requires.active)).0 (
+    let was = (c.moving.invariant.moves (ap (λ p. is_reshaping p.parts.members.newest) c.moving.view_is ∙ c.requires.active)).1 in
     let a = c.moving.inside in
     let given = g.B.Bank.given a.bank in
     let scope = scope_in given a.epoch.uuid a.epoch.given (Some a.backup) in
@@ -54,7 +56,7 @@ invariant_of-moving g c =
     (λ t right. refused-right (world_in given tape scope a.epoch.first) a.epoch.entries.items given a.members was.kept.members_are.placed (was.kept.gone t right) (was.kept.levelled t right) refusal c.in-Some.ensures) in
     ready (entries_of c.args.who end (Refused refusal ∷ [])) was (grows-none (λ t. refl)) (shapes-same a.members.newest) kept
     refl (λ slot. omega arith) (alone-keeps c.args.who end (Refused refusal) (λ n. refl) (λ limit. refl)) (λ none whole. whole) refl (scope-same given (Some a.backup) refl c.append_entry.ensures.uuid c.append_entry.ensures.given) c.append_entry.ensures.first refl c.append_entry.ensures.items
-    (omega (arith, c.append_entry.ensures.room, was.room_left, some))
+    (omega (arith, c.append_entry.ensures.room, was.room_left, some)))
 
 pub returns-in-Some-clause-entered : goal.returns-in-Some-clause-entered
 returns-in-Some-clause-entered g c =
@@ -62,7 +64,7 @@ returns-in-Some-clause-entered g c =
 
 pub returns-in-Some-clause-called : goal.returns-in-Some-clause-called
 returns-in-Some-clause-called g c =
-    let was = c.moving.invariant in
+    let was = (alike c.moving.invariant) in
     let a = c.moving.inside in
     let given = g.B.Bank.given a.bank in
     let faults = g.B.Bank.faults_of a.bank in
@@ -79,7 +81,7 @@ returns-in-Some-clause-called g c =
 
 pub overflow_cast-count : goal.overflow_cast-count
 overflow_cast-count g c =
-    let members = c.moving.invariant.kept.members_are in
+    let members = (c.moving.invariant.moves (ap (λ p. is_reshaping p.parts.members.newest) c.moving.view_is ∙ c.requires.active)).1.kept.members_are in
     let few = few-roles c.moving.inside.members.newest members.placed.fit.valid in
     let roles = members.backed.roles in
     let long = c.len-count.ensures in
@@ -87,7 +89,7 @@ overflow_cast-count g c =
 
 pub unassigned_roles-before-requires-clause-few : goal.unassigned_roles-before-requires-clause-few
 unassigned_roles-before-requires-clause-few g c =
-    let members = c.moving.invariant.kept.members_are in
+    let members = (c.moving.invariant.moves (ap (λ p. is_reshaping p.parts.members.newest) c.moving.view_is ∙ c.requires.active)).1.kept.members_are in
     let few = few-roles c.moving.inside.members.newest members.placed.fit.valid in
     let roles = members.backed.roles in
     let long = c.len-count.ensures in
@@ -95,7 +97,7 @@ unassigned_roles-before-requires-clause-few g c =
 
 pub newly_unassigned-roles-requires-clause-few : goal.newly_unassigned-roles-requires-clause-few
 newly_unassigned-roles-requires-clause-few g c =
-    let members = c.moving.invariant.kept.members_are in
+    let members = (c.moving.invariant.moves (ap (λ p. is_reshaping p.parts.members.newest) c.moving.view_is ∙ c.requires.active)).1.kept.members_are in
     let few = few-roles c.moving.inside.members.newest members.placed.fit.valid in
     let roles = members.backed.roles in
     let long = c.len-count.ensures in
@@ -106,14 +108,15 @@ newly_unassigned-roles-requires-clause-few g c =
 pub zero-done-requires-clause-through : goal.zero-done-requires-clause-through
 zero-done-requires-clause-through g c =
     let due = subst (λ p. IsZeroDue p) (sym c.moving.view_is) c.requires.due in
-    let here = c.moving.invariant.kept.members_are in
+    let here = (c.moving.invariant.moves (ap (λ p. is_reshaping p.parts.members.newest) c.moving.view_is ∙ c.requires.active)).1.kept.members_are in
     through-of c.moving.inside.members.newest here.placed.fit here.active due.through
 
 -- ---- it is refused
 
 pub invariant_of-moving-in-Some-refusal : goal.invariant_of-moving-in-Some-refusal
 invariant_of-moving-in-Some-refusal g c =
-    let was = c.moving.invariant in
+    goes-on (c.moving.invariant.moves (ap (λ p. is_reshaping p.parts.members.newest) c.moving.view_is ∙ c.requires.active)).0 (
+    let was = (c.moving.invariant.moves (ap (λ p. is_reshaping p.parts.members.newest) c.moving.view_is ∙ c.requires.active)).1 in
     let here = was.kept.members_are in
     let a = c.moving.inside in
     let given = g.B.Bank.given a.bank in
@@ -141,11 +144,11 @@ invariant_of-moving-in-Some-refusal g c =
     with-buffer (let len = (with_items a.buffer c.zero-done.new.scratch).ok.0 in let ok = a.buffer.ok.0 in omega (arith, len, ok, was.buffer_fits))
     (ready (entries_of c.args.who end (losses_of roles spares ++ Refused refusal ∷ [])) was did.keeps.bank.grows (shapes-moved given a.members m did.keeps.moved) kept
     refl did.keeps.bank.counts (behind-keeps c.args.who end roles spares (Refused refusal) (λ n. refl) (λ limit. refl)) (behind-whole tape' (scope_in given a.epoch.uuid a.epoch.given (Some a.backup)) a.epoch.first a.epoch.entries.items c.args.who end roles spares (Refused refusal) did.keeps.moved (missing-since roles did.keeps.moved since.vacant)) did.keeps.bank.same (scope-same given (Some a.backup) did.keeps.bank.same c.append_after_losses.ensures.uuid c.append_after_losses.ensures.given) c.append_after_losses.ensures.first refl c.append_after_losses.ensures.items
-    (omega (arith, c.append_after_losses.ensures.room, was.room_left, some)))
+    (omega (arith, c.append_after_losses.ensures.room, was.room_left, some))))
 
 pub returns-in-Some-refusal-clause-called : goal.returns-in-Some-refusal-clause-called
 returns-in-Some-refusal-clause-called g c =
-    let was = c.moving.invariant in
+    let was = (c.moving.invariant.moves (ap (λ p. is_reshaping p.parts.members.newest) c.moving.view_is ∙ c.requires.active)).1 in
     let here = was.kept.members_are in
     let a = c.moving.inside in
     let given = g.B.Bank.given a.bank in
@@ -182,12 +185,13 @@ overflow_add-moving g c =
     let at = c.stripe_to_zero-stripe.ensures.value in
     let past = c.stripe_to_zero-stripe.ensures.stripe.1 in
     let less = div-le_self newest.size (final_shape newest).chunk in
-    let short = fit-short newest c.moving.invariant.kept.members_are.placed.fit in
+    let short = fit-short newest (alike c.moving.invariant).kept.members_are.placed.fit in
     omega (arith, at, past, less, short)
 
 pub invariant_of-moving-2 : goal.invariant_of-moving-2
 invariant_of-moving-2 g c =
-    let was = c.moving.invariant in
+    goes-on (c.moving.invariant.moves (ap (λ p. is_reshaping p.parts.members.newest) c.moving.view_is ∙ c.requires.active)).0 (
+    let was = (c.moving.invariant.moves (ap (λ p. is_reshaping p.parts.members.newest) c.moving.view_is ∙ c.requires.active)).1 in
     let here = was.kept.members_are in
     let a = c.moving.inside in
     let given = g.B.Bank.given a.bank in
@@ -208,21 +212,21 @@ invariant_of-moving-2 g c =
     let roles = c.newly_unassigned-roles.result in
     let spares = c.zero-done.result.spares in
     let end = c.ops-end-2.result in
-    let left = c.all_left-left.result in
+    let left = c.left_in_reshape-left.result in
     let since = lost-since given a.members m c.len-count.result c.unassigned_roles-before.result roles spares before after here.placed did.keeps.moved did.keeps.failed
     (c.len-count.ensures ∙ here.backed.roles) c.unassigned_roles-before.ensures c.newly_unassigned-roles.ensures in
     let step = zero-step given a.members m tape tape' c.final_in-shape.result c.stripe_to_zero-stripe.result a.course.zeroed roles spares before after c.final_in-shape.ensures c.stripe_to_zero-stripe.ensures.value
     did.keeps.moved did.keeps.bank.grows since did.clean did.keeps.rise did.keeps.unused did.others did.safe in
-    let kept = zero-done a.course a.ahead c.args.who end roles spares is due.through synced was.kept (live-of was.kept c.in_default.ensures) goes c.requires.caller c.ops-end-2.ensures.count step left c.all_left-left.ensures more
+    let kept = zero-done a.course a.ahead c.args.who end roles spares is due.through synced was.kept (live-of was.kept c.in_default.ensures) goes c.requires.caller c.ops-end-2.ensures.count step left c.left_in_reshape-left.ensures more
     (rows-zeroed given a.members m tape' c.final_in-shape.result c.stripe_to_zero-stripe.result a.course.zeroed c.final_in-shape.ensures c.stripe_to_zero-stripe.ensures.value (did.stands c.in_default-refusal.is)) in
     with-buffer (let len = (with_items a.buffer c.zero-done.new.scratch).ok.0 in let ok = a.buffer.ok.0 in omega (arith, len, ok, was.buffer_fits))
     (ready (entries_of c.args.who end (losses_of roles spares ++ Step ZeroesStripe left ∷ [])) was did.keeps.bank.grows (shapes-moved given a.members m did.keeps.moved) kept
     refl did.keeps.bank.counts (behind-keeps c.args.who end roles spares (Step ZeroesStripe left) (λ n. refl) (λ limit. refl)) (behind-whole tape' (scope_in given a.epoch.uuid a.epoch.given (Some a.backup)) a.epoch.first a.epoch.entries.items c.args.who end roles spares (Step ZeroesStripe left) did.keeps.moved (missing-since roles did.keeps.moved since.vacant)) did.keeps.bank.same (scope-same given (Some a.backup) did.keeps.bank.same c.append_after_losses-2.ensures.uuid c.append_after_losses-2.ensures.given) c.append_after_losses-2.ensures.first refl c.append_after_losses-2.ensures.items
-    (omega (arith, c.append_after_losses-2.ensures.room, was.room_left, some)))
+    (omega (arith, c.append_after_losses-2.ensures.room, was.room_left, some))))
 
 pub returns-clause-called : goal.returns-clause-called
 returns-clause-called g c =
-    let was = c.moving.invariant in
+    let was = (c.moving.invariant.moves (ap (λ p. is_reshaping p.parts.members.newest) c.moving.view_is ∙ c.requires.active)).1 in
     let here = was.kept.members_are in
     let a = c.moving.inside in
     let given = g.B.Bank.given a.bank in
@@ -233,7 +237,7 @@ returns-clause-called g c =
     let roles = c.newly_unassigned-roles.result in
     let spares = c.zero-done.result.spares in
     let end = c.ops-end-2.result in
-    let event = Step ZeroesStripe c.all_left-left.result in
+    let event = Step ZeroesStripe c.left_in_reshape-left.result in
     let since = lost-since given a.members m c.len-count.result c.unassigned_roles-before.result roles spares before after here.placed did.keeps.moved did.keeps.failed
     (c.len-count.ensures ∙ here.backed.roles) c.unassigned_roles-before.ensures c.newly_unassigned-roles.ensures in
     rw (← c.moving.view_is) (called did.keeps.bank.grows did.keeps.moved
@@ -275,11 +279,12 @@ stripe_to_zero-stripe-requires-clause-zeroed g c =
     subst (λ (k : Course). k.zeroed < zeroed_by c.moving.inside.members.newest) (sym due.is) due.more
 
 pub zero-done-requires-clause-stands : goal.zero-done-requires-clause-stands
-zero-done-requires-clause-stands g c = record {
-  slots = c.moving.invariant.kept.slots;
-  placed = c.moving.invariant.kept.members_are.placed;
-  unlost = c.moving.invariant.kept.members_are.unlost;
-  free = c.moving.invariant.kept.members_are.free;
+zero-done-requires-clause-stands g c =
+    record {
+  slots = (alike c.moving.invariant).kept.slots;
+  placed = (alike c.moving.invariant).kept.members_are.placed;
+  unlost = (alike c.moving.invariant).kept.members_are.unlost;
+  free = (alike c.moving.invariant).kept.members_are.free;
 }
 
 pub zero-done-requires-clause-shape : goal.zero-done-requires-clause-shape
@@ -287,14 +292,15 @@ zero-done-requires-clause-shape g c = c.final_in-shape.ensures
 
 pub zero-done-requires-clause-scratch : goal.zero-done-requires-clause-scratch
 zero-done-requires-clause-scratch g c =
-    scratch-for (length c.moving.inside.buffer.items) (length c.as_mut_slice.result.now) (ap (λ (l : List ℕ). length l) c.as_mut_slice.ensures.value) c.moving.invariant.buffer_fits
+    scratch-for (length c.moving.inside.buffer.items) (length c.as_mut_slice.result.now) (ap (λ (l : List ℕ). length l) c.as_mut_slice.ensures.value) (alike c.moving.invariant).buffer_fits
 
 pub newly_unassigned-roles-requires-clause-known : goal.newly_unassigned-roles-requires-clause-known
 newly_unassigned-roles-requires-clause-known g c =
-    roles-moved (g.B.Bank.given c.moving.inside.bank) c.moving.inside.members c.zero-done.new.members c.zero-done.ensures.keeps.moved c.len-count.result c.len-count.ensures c.moving.invariant.kept.members_are.placed.roles
+    roles-moved (g.B.Bank.given c.moving.inside.bank) c.moving.inside.members c.zero-done.new.members c.zero-done.ensures.keeps.moved c.len-count.result c.len-count.ensures (alike c.moving.invariant).kept.members_are.placed.roles
 
 pub append_after_losses-requires-clause-room : goal.append_after_losses-requires-clause-room
-append_after_losses-requires-clause-room g c = room-behind c.moving.inside.steps c.args.moving.now.parts.steps c.moving.inside.epoch.entries.room (ap (λ p. p.parts.steps) c.moving.view_is) c.requires.room c.moving.invariant.room_left
+append_after_losses-requires-clause-room g c =
+    room-behind c.moving.inside.steps c.args.moving.now.parts.steps c.moving.inside.epoch.entries.room (ap (λ p. p.parts.steps) c.moving.view_is) c.requires.room (alike c.moving.invariant).room_left
 
 pub append_after_losses-requires-clause-number : goal.append_after_losses-requires-clause-number
 append_after_losses-requires-clause-number g c = c.check_going.ensures
@@ -315,37 +321,38 @@ returns-in-Some-refusal-clause-room g c = one-fewer c.moving.inside.steps c.args
 pub returns-in-Some-refusal-clause-given : goal.returns-in-Some-refusal-clause-given
 returns-in-Some-refusal-clause-given g c = c.zero-done.ensures.keeps.bank.same ∙ ap (λ p. g.B.Bank.given p.parts.bank) c.moving.view_is
 
-pub all_left-left-requires-clause-fit : goal.all_left-left-requires-clause-fit
-all_left-left-requires-clause-fit g c = c.zero-done.ensures.keeps.moved.placed.fit
+pub left_in_reshape-left-requires-clause-fit : goal.left_in_reshape-left-requires-clause-fit
+left_in_reshape-left-requires-clause-fit g c = c.zero-done.ensures.keeps.moved.placed.fit
 
-pub all_left-left-requires-clause-reshape : goal.all_left-left-requires-clause-reshape
-all_left-left-requires-clause-reshape g c =
-    under-way-moved (g.B.Bank.given c.moving.inside.bank) c.moving.inside.members c.zero-done.new.members c.zero-done.ensures.keeps.moved c.moving.invariant.kept.members_are.active
+pub left_in_reshape-left-requires-clause-reshape : goal.left_in_reshape-left-requires-clause-reshape
+left_in_reshape-left-requires-clause-reshape g c =
+    under-way-moved (g.B.Bank.given c.moving.inside.bank) c.moving.inside.members c.zero-done.new.members c.zero-done.ensures.keeps.moved (c.moving.invariant.moves (ap (λ p. is_reshaping p.parts.members.newest) c.moving.view_is ∙ c.requires.active)).1.kept.members_are.active
 
-pub all_left-left-requires-clause-open : goal.all_left-left-requires-clause-open
-all_left-left-requires-clause-open g c =
+pub left_in_reshape-left-requires-clause-open : goal.left_in_reshape-left-requires-clause-open
+left_in_reshape-left-requires-clause-open g c =
     let due = subst (λ p. IsZeroDue p) (sym c.moving.view_is) c.requires.due in
     subst (λ (k : Course). IsWindowRight c.zero-done.new.members.newest k.window) (sym due.is) tt
 
-pub all_left-left-requires-clause-zeroed : goal.all_left-left-requires-clause-zeroed
-all_left-left-requires-clause-zeroed g c =
+pub left_in_reshape-left-requires-clause-zeroed : goal.left_in_reshape-left-requires-clause-zeroed
+left_in_reshape-left-requires-clause-zeroed g c =
     let due = subst (λ p. IsZeroDue p) (sym c.moving.view_is) c.requires.due in
     zeroed-moved (g.B.Bank.given c.moving.inside.bank) c.moving.inside.members c.zero-done.new.members c.zero-done.ensures.keeps.moved (c.moving.inside.course.zeroed + 1)
     (next-within c.moving.inside.course.zeroed _ (subst (λ (k : Course). k.zeroed < zeroed_by c.moving.inside.members.newest) (sym due.is) due.more))
 
-pub all_left-left-requires-clause-sound : goal.all_left-left-requires-clause-sound
-all_left-left-requires-clause-sound g c =
-    sound-moved (g.B.Bank.given c.moving.inside.bank) c.moving.inside.members c.zero-done.new.members c.zero-done.ensures.keeps.moved (phases_of c.moving.inside.ahead) c.moving.invariant.planned
+pub left_in_reshape-left-requires-clause-sound : goal.left_in_reshape-left-requires-clause-sound
+left_in_reshape-left-requires-clause-sound g c =
+    sound-moved (g.B.Bank.given c.moving.inside.bank) c.moving.inside.members c.zero-done.new.members c.zero-done.ensures.keeps.moved (phases_of c.moving.inside.ahead) (c.moving.invariant.moves (ap (λ p. is_reshaping p.parts.members.newest) c.moving.view_is ∙ c.requires.active)).1.planned
 
 pub append_after_losses-requires-2-clause-room : goal.append_after_losses-requires-2-clause-room
-append_after_losses-requires-2-clause-room g c = room-behind c.moving.inside.steps c.args.moving.now.parts.steps c.moving.inside.epoch.entries.room (ap (λ p. p.parts.steps) c.moving.view_is) c.requires.room c.moving.invariant.room_left
+append_after_losses-requires-2-clause-room g c =
+    room-behind c.moving.inside.steps c.args.moving.now.parts.steps c.moving.inside.epoch.entries.room (ap (λ p. p.parts.steps) c.moving.view_is) c.requires.room (alike c.moving.invariant).room_left
 
 pub append_after_losses-requires-2-clause-number : goal.append_after_losses-requires-2-clause-number
 append_after_losses-requires-2-clause-number g c = c.check_going.ensures
 
 pub returns-clause-entered : goal.returns-clause-entered
 returns-clause-entered g c =
-    rw (← c.moving.view_is) (taken-behind c.args.who c.ops-end-2.result c.newly_unassigned-roles.result c.zero-done.result.spares ZeroesStripe c.all_left-left.result _ c.all_left-left.ensures c.append_after_losses-2.ensures.items)
+    rw (← c.moving.view_is) (taken-behind c.args.who c.ops-end-2.result c.newly_unassigned-roles.result c.zero-done.result.spares ZeroesStripe c.left_in_reshape-left.result _ c.left_in_reshape-left.ensures c.append_after_losses-2.ensures.items)
 
 pub returns-clause-clean : goal.returns-clause-clean
 returns-clause-clean g c = c.zero-done.ensures.clean ∙ ap (λ p. is_clean p.parts.members.newest) c.moving.view_is
@@ -357,7 +364,7 @@ pub returns-clause-left : goal.returns-clause-left
 returns-clause-left g c =
     let a = c.moving.inside in
     let due = subst (λ p. IsZeroDue p) (sym c.moving.view_is) c.requires.due in
-    rw (← c.moving.view_is) (zero-left (g.B.Bank.given c.moving.inside.bank) a.members c.zero-done.new.members a.work.resync a.course a.ahead c.zero-done.ensures.keeps.moved c.moving.invariant.kept.members_are.active (closed-at a.course due.zeroed due.is)
+    rw (← c.moving.view_is) (zero-left (g.B.Bank.given c.moving.inside.bank) a.members c.zero-done.new.members a.work.resync a.course a.ahead c.zero-done.ensures.keeps.moved (c.moving.invariant.moves (ap (λ p. is_reshaping p.parts.members.newest) c.moving.view_is ∙ c.requires.active)).1.kept.members_are.active (closed-at a.course due.zeroed due.is)
     (subst (λ (k : Course). k.zeroed < zeroed_by c.moving.inside.members.newest) (sym due.is) due.more))
 
 pub returns-clause-zeroed : goal.returns-clause-zeroed
@@ -376,3 +383,12 @@ pub zero-done-requires-clause-stripe : goal.zero-done-requires-clause-stripe
 zero-done-requires-clause-stripe g c =
     let n = c.moving.inside.members.newest in
     subst (λ (s : Shape). IsPastStripe s n.size (list_length n) c.stripe_to_zero-stripe.result) (sym c.final_in-shape.ensures) c.stripe_to_zero-stripe.ensures.stripe
+
+pub returns-in-Some-clause-active : goal.returns-in-Some-clause-active
+returns-in-Some-clause-active g c = (ap (λ p. is_reshaping p.parts.members.newest) c.moving.view_is ∙ c.requires.active)
+
+pub returns-in-Some-refusal-clause-active : goal.returns-in-Some-refusal-clause-active
+returns-in-Some-refusal-clause-active g c = c.zero-done.ensures.keeps.moved.reshape.reshaping ∙ (ap (λ p. is_reshaping p.parts.members.newest) c.moving.view_is ∙ c.requires.active)
+
+pub returns-clause-active : goal.returns-clause-active
+returns-clause-active g c = c.zero-done.ensures.keeps.moved.reshape.reshaping ∙ (ap (λ p. is_reshaping p.parts.members.newest) c.moving.view_is ∙ c.requires.active)

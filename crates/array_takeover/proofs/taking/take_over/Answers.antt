@@ -37,69 +37,69 @@ use Rattle.array_takeover.proofs.taking.take_over.Goals as goal
 
 pub give_back-requires-clause-told : goal.give_back-requires-clause-told
 give_back-requires-clause-told g c =
-    let p = c.take_apart-pieces.result in
-    let next = subst (λ s. IsTakeoverNext (phases_of s.ahead) c.args.to (phases_of c.args.behind)) c.take_apart-pieces.ensures.same c.requires.next in
-    told-ahead (phases_of p.ahead) (phases_of c.args.behind) c.args.to c.take_apart-pieces.ensures.ready.ahead_told next
+    let p = c.part_fixed-pieces.result in
+    let next = subst (λ s. IsTakeoverNext (phases_of s.ahead) c.args.to (phases_of c.args.behind)) c.part_fixed-pieces.ensures.same c.requires.next in
+    told-ahead (phases_of p.ahead) (phases_of c.args.behind) c.args.to c.part_fixed-pieces.ensures.ready.ahead_told next
 
 pub give_back-requires-clause-why : goal.give_back-requires-clause-why
 give_back-requires-clause-why g c = (c.args.to, c.in-Err.ensures.refused)
 
 pub returns-in-Err-clause-caused : goal.returns-in-Err-clause-caused
-returns-in-Err-clause-caused g c = untaken-as c.args.to c.in-Err.refusal c.args.still _ c.take_apart-pieces.ensures.same c.in-Err.ensures.refused
+returns-in-Err-clause-caused g c = untaken-as c.args.to c.in-Err.refusal c.args.still _ c.part_fixed-pieces.ensures.same c.in-Err.ensures.refused
 
 -- ---- what is asked of the update
 
 pub take_over-spares-requires-clause-valid : goal.take_over-spares-requires-clause-valid
 take_over-spares-requires-clause-valid g c =
-    let p = c.take_apart-pieces.result in
-    let next = subst (λ s. IsTakeoverNext (phases_of s.ahead) c.args.to (phases_of c.args.behind)) c.take_apart-pieces.ensures.same c.requires.next in
-    (sound-next (shape_of p.members.newest) c.args.to p.members.newest.size (phases_of p.ahead) (phases_of c.args.behind) c.take_apart-pieces.ensures.ready.planned next).valid
+    let p = c.part_fixed-pieces.result in
+    let next = subst (λ s. IsTakeoverNext (phases_of s.ahead) c.args.to (phases_of c.args.behind)) c.part_fixed-pieces.ensures.same c.requires.next in
+    (sound-next (shape_of p.members.newest) c.args.to p.members.newest.size (phases_of p.ahead) (phases_of c.args.behind) c.part_fixed-pieces.ensures.ready.planned next).valid
 
 pub take_over-spares-requires-clause-can : goal.take_over-spares-requires-clause-can
 take_over-spares-requires-clause-can g c =
-    let p = c.take_apart-pieces.result in
-    let next = subst (λ s. IsTakeoverNext (phases_of s.ahead) c.args.to (phases_of c.args.behind)) c.take_apart-pieces.ensures.same c.requires.next in
-    can-take p.members c.args.to c.in-Ok.slot (sound-next (shape_of p.members.newest) c.args.to p.members.newest.size (phases_of p.ahead) (phases_of c.args.behind) c.take_apart-pieces.ensures.ready.planned next).way c.in-Ok.ensures.chosen
+    let p = c.part_fixed-pieces.result in
+    let next = subst (λ s. IsTakeoverNext (phases_of s.ahead) c.args.to (phases_of c.args.behind)) c.part_fixed-pieces.ensures.same c.requires.next in
+    can-take p.members c.args.to c.in-Ok.slot (sound-next (shape_of p.members.newest) c.args.to p.members.newest.size (phases_of p.ahead) (phases_of c.args.behind) c.part_fixed-pieces.ensures.ready.planned next).way c.in-Ok.ensures.chosen
 
 -- ---- the steps that are left
 
 pub mark_unbuilt-requires-clause-least : goal.mark_unbuilt-requires-clause-least
 mark_unbuilt-requires-clause-least g c =
-    let p = c.take_apart-pieces.result in
-    let next = subst (λ s. IsTakeoverNext (phases_of s.ahead) c.args.to (phases_of c.args.behind)) c.take_apart-pieces.ensures.same c.requires.next in
-    let least = (limited c.args.to (sound-next (shape_of p.members.newest) c.args.to p.members.newest.size (phases_of p.ahead) (phases_of c.args.behind) c.take_apart-pieces.ensures.ready.planned next).valid).least in
+    let p = c.part_fixed-pieces.result in
+    let next = subst (λ s. IsTakeoverNext (phases_of s.ahead) c.args.to (phases_of c.args.behind)) c.part_fixed-pieces.ensures.same c.requires.next in
+    let least = (limited c.args.to (sound-next (shape_of p.members.newest) c.args.to p.members.newest.size (phases_of p.ahead) (phases_of c.args.behind) c.part_fixed-pieces.ensures.ready.planned next).valid).least in
     omega (arith, least)
 
 pub mark_unbuilt-requires-clause-most : goal.mark_unbuilt-requires-clause-most
 mark_unbuilt-requires-clause-most g c =
-    let p = c.take_apart-pieces.result in
-    let next = subst (λ s. IsTakeoverNext (phases_of s.ahead) c.args.to (phases_of c.args.behind)) c.take_apart-pieces.ensures.same c.requires.next in
-    (limited c.args.to (sound-next (shape_of p.members.newest) c.args.to p.members.newest.size (phases_of p.ahead) (phases_of c.args.behind) c.take_apart-pieces.ensures.ready.planned next).valid).most
+    let p = c.part_fixed-pieces.result in
+    let next = subst (λ s. IsTakeoverNext (phases_of s.ahead) c.args.to (phases_of c.args.behind)) c.part_fixed-pieces.ensures.same c.requires.next in
+    (limited c.args.to (sound-next (shape_of p.members.newest) c.args.to p.members.newest.size (phases_of p.ahead) (phases_of c.args.behind) c.part_fixed-pieces.ensures.ready.planned next).valid).most
 
 pub told_of-told-requires-clause-size : goal.told_of-told-requires-clause-size
 told_of-told-requires-clause-size g c = fit-short c.take_over-spares.new.members.newest c.take_over-spares.ensures.moved.placed.fit
 
 pub told_of-told-requires-clause-progress : goal.told_of-told-requires-clause-progress
 told_of-told-requires-clause-progress g c =
-    let p = c.take_apart-pieces.result in
-    let idle = subst (λ s. left_of s.parts.work s.parts.members ≡ 0) c.take_apart-pieces.ensures.same c.requires.done in
+    let p = c.part_fixed-pieces.result in
+    let idle = subst (λ s. left_of s.parts.work s.parts.members ≡ 0) c.part_fixed-pieces.ensures.same c.requires.done in
     let none = ap (λ (w : Work). w.resync) c.mark_unbuilt.ensures.work ∙ synced-then c.args.to p.members p.work idle in
     subst (λ (o : Option ℕ). IfSome o (λ mended. mended ≤ stripes_of c.take_over-spares.new.members)) (sym none) tt
 
 pub told_of-told-requires-clause-sound : goal.told_of-told-requires-clause-sound
 told_of-told-requires-clause-sound g c =
-    let p = c.take_apart-pieces.result in
-    let next = subst (λ s. IsTakeoverNext (phases_of s.ahead) c.args.to (phases_of c.args.behind)) c.take_apart-pieces.ensures.same c.requires.next in
+    let p = c.part_fixed-pieces.result in
+    let next = subst (λ s. IsTakeoverNext (phases_of s.ahead) c.args.to (phases_of c.args.behind)) c.part_fixed-pieces.ensures.same c.requires.next in
     subst (λ (n : ℕ). AreSound c.args.to n (phases_of c.args.behind)) (sym c.take_over-spares.ensures.newest.size)
-    (sound-next (shape_of p.members.newest) c.args.to p.members.newest.size (phases_of p.ahead) (phases_of c.args.behind) c.take_apart-pieces.ensures.ready.planned next).rest
+    (sound-next (shape_of p.members.newest) c.args.to p.members.newest.size (phases_of p.ahead) (phases_of c.args.behind) c.part_fixed-pieces.ensures.ready.planned next).rest
 
 -- ---- it is taken over
 
-pub of_pieces-requires : goal.of_pieces-requires
-of_pieces-requires g c =
-    let p = c.take_apart-pieces.result in
-    let same = c.take_apart-pieces.ensures.same in
-    let was = c.take_apart-pieces.ensures.ready in
+pub of_fixed-requires : goal.of_fixed-requires
+of_fixed-requires g c =
+    let p = c.part_fixed-pieces.result in
+    let same = c.part_fixed-pieces.ensures.same in
+    let was = c.part_fixed-pieces.ensures.ready in
     let given = g.B.Bank.given p.bank in
     let tape = g.B.Bank.tape p.bank in
     let bank = c.take_over-spares.new.bank in
@@ -144,9 +144,9 @@ of_pieces-requires g c =
 
 pub returns-clause-taken : goal.returns-clause-taken
 returns-clause-taken g c =
-    let p = c.take_apart-pieces.result in
-    let same = c.take_apart-pieces.ensures.same in
-    let was = c.take_apart-pieces.ensures.ready in
+    let p = c.part_fixed-pieces.result in
+    let same = c.part_fixed-pieces.ensures.same in
+    let was = c.part_fixed-pieces.ensures.ready in
     let given = g.B.Bank.given p.bank in
     let tape = g.B.Bank.tape p.bank in
     let bank = c.take_over-spares.new.bank in
@@ -180,7 +180,7 @@ returns-clause-taken g c =
     let spares_is : c.told_of-told.result.spares ≡ spares = c.told_of-told.ensures.spares in
     let entered = c.enter_taken.ensures.items ∙ (λ i. p.epoch.entries.items ++ entries_of who end (Step TakenOver (c.told_of-told.ensures.left i) ∷ losses_of roles (spares_is i))) in
     let items = c.enter_taken.ensures.items ∙ (λ i. p.epoch.entries.items ++ entries_of who end (Step TakenOver (left_is i) ∷ losses_of roles (spares_is i))) in
-    taken-as g.B.Bank.given g.B.Bank.tape g.B.Bank.faults_of who to behind c.args.still c.of_pieces.result _ _ same c.of_pieces.ensures.same (record {
+    taken-as g.B.Bank.given g.B.Bank.tape g.B.Bank.faults_of who to behind c.args.still c.of_fixed.result _ _ same c.of_fixed.ensures.same (record {
       whole = c.in-Ok.ensures.whole;
       slot = c.in-Ok.slot;
       chosen = c.in-Ok.ensures.chosen;
@@ -220,48 +220,52 @@ returns-clause-taken g c =
 -- ---- what the calls ask for
 
 pub taken_slot-requires-clause-roles : goal.taken_slot-requires-clause-roles
-taken_slot-requires-clause-roles g c = c.take_apart-pieces.ensures.ready.kept.members_are.placed.roles
+taken_slot-requires-clause-roles g c = c.part_fixed-pieces.ensures.ready.kept.members_are.placed.roles
 
 pub taken_slot-requires-clause-few : goal.taken_slot-requires-clause-few
-taken_slot-requires-clause-few g c = subst (λ (n : ℕ). n ≤ 16) (sym c.take_apart-pieces.ensures.ready.kept.members_are.placed.roles) (few-roles c.take_apart-pieces.result.members.newest c.take_apart-pieces.ensures.ready.kept.members_are.placed.fit.valid)
+taken_slot-requires-clause-few g c =
+    subst (λ (n : ℕ). n ≤ 16) (sym c.part_fixed-pieces.ensures.ready.kept.members_are.placed.roles) (few-roles c.part_fixed-pieces.result.members.newest c.part_fixed-pieces.ensures.ready.kept.members_are.placed.fit.valid)
 
 pub give_back-requires-clause-open : goal.give_back-requires-clause-open
-give_back-requires-clause-open g c = subst (λ s. IsCallGoing s.parts.entries c.args.who) c.take_apart-pieces.ensures.same c.requires.open
+give_back-requires-clause-open g c = subst (λ s. IsCallGoing s.parts.entries c.args.who) c.part_fixed-pieces.ensures.same c.requires.open
 
 pub give_back-requires-clause-room : goal.give_back-requires-clause-room
-give_back-requires-clause-room g c = subst (λ s. 1 ≤ s.parts.steps) c.take_apart-pieces.ensures.same c.requires.room
+give_back-requires-clause-room g c = subst (λ s. 1 ≤ s.parts.steps) c.part_fixed-pieces.ensures.same c.requires.room
 
 pub overflow_sub-pieces : goal.overflow_sub-pieces
-overflow_sub-pieces g c = subst (λ s. 1 ≤ s.parts.steps) c.take_apart-pieces.ensures.same c.requires.room
+overflow_sub-pieces g c = subst (λ s. 1 ≤ s.parts.steps) c.part_fixed-pieces.ensures.same c.requires.room
 
 pub check_going-requires : goal.check_going-requires
-check_going-requires g c = subst (λ s. IsCallGoing s.parts.entries c.args.who) c.take_apart-pieces.ensures.same c.requires.open
+check_going-requires g c = subst (λ s. IsCallGoing s.parts.entries c.args.who) c.part_fixed-pieces.ensures.same c.requires.open
 
 pub take_over-spares-requires-clause-stands : goal.take_over-spares-requires-clause-stands
-take_over-spares-requires-clause-stands g c = record {
-  slots = c.take_apart-pieces.ensures.ready.kept.slots;
-  placed = c.take_apart-pieces.ensures.ready.kept.members_are.placed;
-  unlost = c.take_apart-pieces.ensures.ready.kept.members_are.unlost;
-  free = c.take_apart-pieces.ensures.ready.kept.members_are.free;
+take_over-spares-requires-clause-stands g c =
+    record {
+  slots = c.part_fixed-pieces.ensures.ready.kept.slots;
+  placed = c.part_fixed-pieces.ensures.ready.kept.members_are.placed;
+  unlost = c.part_fixed-pieces.ensures.ready.kept.members_are.unlost;
+  free = c.part_fixed-pieces.ensures.ready.kept.members_are.free;
 }
 
 pub take_over-spares-requires-clause-still : goal.take_over-spares-requires-clause-still
-take_over-spares-requires-clause-still g c = c.take_apart-pieces.ensures.ready.kept.members_are.still
+take_over-spares-requires-clause-still g c = c.part_fixed-pieces.ensures.ready.kept.members_are.still
 
 pub told_of-told-requires-clause-fit : goal.told_of-told-requires-clause-fit
 told_of-told-requires-clause-fit g c = c.take_over-spares.ensures.moved.placed.fit
 
 pub enter_taken-requires-clause-room : goal.enter_taken-requires-clause-room
 enter_taken-requires-clause-room g c =
-    room-for 49 c.take_apart-pieces.result.steps c.take_apart-pieces.result.epoch.entries.room c.take_apart-pieces.ensures.ready.room_left (subst (λ s. 1 ≤ s.parts.steps) c.take_apart-pieces.ensures.same c.requires.room) (omega arith)
+    room-for 49 c.part_fixed-pieces.result.steps c.part_fixed-pieces.result.epoch.entries.room c.part_fixed-pieces.ensures.ready.room_left (subst (λ s. 1 ≤ s.parts.steps) c.part_fixed-pieces.ensures.same c.requires.room) (omega arith)
 
 -- ---- what is as it was
 
 pub returns-in-Err-clause-refused : goal.returns-in-Err-clause-refused
-returns-in-Err-clause-refused g c = untouched-as g.B.Bank.tape c.args.who c.in-Err.refusal c.args.still c.give_back.result _ c.take_apart-pieces.ensures.same c.give_back.ensures.back
+returns-in-Err-clause-refused g c =
+    untouched-as g.B.Bank.tape c.args.who c.in-Err.refusal c.args.still c.give_back.result _ c.part_fixed-pieces.ensures.same c.give_back.ensures.back
 
 pub returns-clause-given : goal.returns-clause-given
-returns-clause-given g c = both-given g.B.Bank.given c.args.still c.of_pieces.result _ _ c.take_apart-pieces.ensures.same c.of_pieces.ensures.same c.take_over-spares.ensures.bank.same
+returns-clause-given g c =
+    both-given g.B.Bank.given c.args.still c.of_fixed.result _ _ c.part_fixed-pieces.ensures.same c.of_fixed.ensures.same c.take_over-spares.ensures.bank.same
 
 pub told_of-told-requires-clause-shape : goal.told_of-told-requires-clause-shape
 told_of-told-requires-clause-shape g c = c.take_over-spares.ensures.newest.shape

@@ -14,7 +14,8 @@ overflow_cast-count c =
     omega (arith, few, same, count, long)
 
 pub overflow_add-result : goal.overflow_add-result
-overflow_add-result c = let few = left-few c.args.work.now c.args.members.now c.requires.fit.valid.old c.requires.size in omega (arith, few, c.steps_left-own.ensures, c.planned_left.ensures.few)
+overflow_add-result c =
+    let few = left-few c.args.work.now c.args.members.now c.requires.fit.valid.old c.requires.size in omega (arith, few, c.steps_left-own.ensures, c.planned_left.ensures.few)
 
 pub unassigned_roles-requires-clause-few : goal.unassigned_roles-requires-clause-few
 unassigned_roles-requires-clause-few c =

@@ -50,60 +50,64 @@ use Rattle.array_transition.proofs.beginning.begin_reshape.Goals as goal
 
 pub give_back-requires-clause-told : goal.give_back-requires-clause-told
 give_back-requires-clause-told g c =
-    let p = c.take_apart-pieces.result in
-    let next = subst (λ s. phases_of s.ahead ≡ Reshape c.args.to ∷ phases_of c.args.behind) c.take_apart-pieces.ensures.same c.requires.next in
-    ahead-told (phases_of p.ahead) (Reshape c.args.to) (phases_of c.args.behind) c.take_apart-pieces.ensures.ready.ahead_told next
+    let p = c.part_fixed-pieces.result in
+    let next = subst (λ s. phases_of s.ahead ≡ Reshape c.args.to ∷ phases_of c.args.behind) c.part_fixed-pieces.ensures.same c.requires.next in
+    ahead-told (phases_of p.ahead) (Reshape c.args.to) (phases_of c.args.behind) c.part_fixed-pieces.ensures.ready.ahead_told next
 
 pub fail_backup-still-requires-clause-told : goal.fail_backup-still-requires-clause-told
 fail_backup-still-requires-clause-told g c =
-    let p = c.take_apart-pieces.result in
-    let next = subst (λ s. phases_of s.ahead ≡ Reshape c.args.to ∷ phases_of c.args.behind) c.take_apart-pieces.ensures.same c.requires.next in
-    ahead-told (phases_of p.ahead) (Reshape c.args.to) (phases_of c.args.behind) c.take_apart-pieces.ensures.ready.ahead_told next
+    let p = c.part_fixed-pieces.result in
+    let next = subst (λ s. phases_of s.ahead ≡ Reshape c.args.to ∷ phases_of c.args.behind) c.part_fixed-pieces.ensures.same c.requires.next in
+    ahead-told (phases_of p.ahead) (Reshape c.args.to) (phases_of c.args.behind) c.part_fixed-pieces.ensures.ready.ahead_told next
 
 pub unbegun-requires-clause-few : goal.unbegun-requires-clause-few
 unbegun-requires-clause-few g c =
-    let members_are = c.take_apart-pieces.ensures.ready.kept.members_are in
-    let few = few-roles c.take_apart-pieces.result.members.newest members_are.placed.fit.valid in
+    let members_are = c.part_fixed-pieces.ensures.ready.kept.members_are in
+    let few = few-roles c.part_fixed-pieces.result.members.newest members_are.placed.fit.valid in
     let count = members_are.placed.roles in
     omega (arith, few, count)
 
 pub unbegun-requires-clause-disks : goal.unbegun-requires-clause-disks
 unbegun-requires-clause-disks g c =
-    let p = c.take_apart-pieces.result in
-    let next = subst (λ s. phases_of s.ahead ≡ Reshape c.args.to ∷ phases_of c.args.behind) c.take_apart-pieces.ensures.same c.requires.next in
-    let sound = next-sound (shape_of p.members.newest) p.members.newest.size (phases_of p.ahead) (phases_of c.args.behind) c.args.to c.take_apart-pieces.ensures.ready.planned next in
+    let p = c.part_fixed-pieces.result in
+    let next = subst (λ s. phases_of s.ahead ≡ Reshape c.args.to ∷ phases_of c.args.behind) c.part_fixed-pieces.ensures.same c.requires.next in
+    let sound = next-sound (shape_of p.members.newest) p.members.newest.size (phases_of p.ahead) (phases_of c.args.behind) c.args.to c.part_fixed-pieces.ensures.ready.planned next in
     (limited c.args.to sound.0.new_valid).most
 
 pub returns-in-Some-clause-caused : goal.returns-in-Some-clause-caused
-returns-in-Some-clause-caused g c = unbegun-as g.B.Bank.faults_of c.args.to c.in-Some.refusal c.args.still c.give_back.result _ c.take_apart-pieces.ensures.same (inl (c.in-Some.ensures, c.give_back.ensures.bank))
+returns-in-Some-clause-caused g c =
+    unbegun-as g.B.Bank.faults_of c.args.to c.in-Some.refusal c.args.still c.give_back.result _ c.part_fixed-pieces.ensures.same (inl (c.in-Some.ensures, c.give_back.ensures.bank))
 
 pub returns-in-Some-clause-grows : goal.returns-in-Some-clause-grows
-returns-in-Some-clause-grows g c = grows-as g.B.Bank.tape c.args.still _ (g.B.Bank.tape c.give_back.result.parts.bank) c.take_apart-pieces.ensures.same (grows-none (λ t. ap g.B.Bank.tape c.give_back.ensures.bank))
+returns-in-Some-clause-grows g c =
+    grows-as g.B.Bank.tape c.args.still _ (g.B.Bank.tape c.give_back.result.parts.bank) c.part_fixed-pieces.ensures.same (grows-none (λ t. ap g.B.Bank.tape c.give_back.ensures.bank))
 
 -- ---- the backup was found failing
 
 pub returns-then-not-contains-clause-caused : goal.returns-then-not-contains-clause-caused
 returns-then-not-contains-clause-caused g c =
-    let p = c.take_apart-pieces.result in
-    unbegun-as g.B.Bank.faults_of c.args.to BackupFault c.args.still c.fail_backup-still.result _ c.take_apart-pieces.ensures.same (inr (
+    let p = c.part_fixed-pieces.result in
+    unbegun-as g.B.Bank.faults_of c.args.to BackupFault c.args.still c.fail_backup-still.result _ c.part_fixed-pieces.ensures.same (inr (
       c.in_default.ensures,
       refl,
       subst (λ (o : Option ℕ). IfSome o (λ slot. IsFaulted slot (g.B.Bank.faults_of p.bank) (g.B.Bank.faults_of c.fail_backup-still.result.parts.bank))) (sym c.in-Some-backup.is) c.fail_backup-still.ensures.failed,
     ))
 
 pub returns-then-not-contains-clause-grows : goal.returns-then-not-contains-clause-grows
-returns-then-not-contains-clause-grows g c = grows-as g.B.Bank.tape c.args.still _ (g.B.Bank.tape c.fail_backup-still.result.parts.bank) c.take_apart-pieces.ensures.same (grows-none c.fail_backup-still.ensures.tape)
+returns-then-not-contains-clause-grows g c =
+    grows-as g.B.Bank.tape c.args.still _ (g.B.Bank.tape c.fail_backup-still.result.parts.bank) c.part_fixed-pieces.ensures.same (grows-none c.fail_backup-still.ensures.tape)
 
 pub returns-then-not-contains-clause-never_falls : goal.returns-then-not-contains-clause-never_falls
-returns-then-not-contains-clause-never_falls g c = falls-as g.B.Bank.faults_of c.args.still _ (g.B.Bank.faults_of c.fail_backup-still.result.parts.bank) c.take_apart-pieces.ensures.same c.fail_backup-still.ensures.never_falls
+returns-then-not-contains-clause-never_falls g c =
+    falls-as g.B.Bank.faults_of c.args.still _ (g.B.Bank.faults_of c.fail_backup-still.result.parts.bank) c.part_fixed-pieces.ensures.same c.fail_backup-still.ensures.never_falls
 
 -- ---- the backup failed
 
 pub of_pieces-requires : goal.of_pieces-requires
 of_pieces-requires g c =
-    let p = c.take_apart-pieces.result in
-    let same = c.take_apart-pieces.ensures.same in
-    let was = c.take_apart-pieces.ensures.ready in
+    let p = c.part_fixed-pieces.result in
+    let same = c.part_fixed-pieces.ensures.same in
+    let was = c.part_fixed-pieces.ensures.ready in
     let are = was.kept.members_are in
     let given = g.B.Bank.given p.bank in
     let tape = g.B.Bank.tape p.bank in
@@ -138,11 +142,11 @@ of_pieces-requires g c =
 
 pub returns-in-Some-refusal-clause-refused : goal.returns-in-Some-refusal-clause-refused
 returns-in-Some-refusal-clause-refused g c =
-    let p = c.take_apart-pieces.result in
+    let p = c.part_fixed-pieces.result in
     let end = c.ops-end.result in
     let refusal = c.in-Some-refusal.refusal in
-    let some : 1 ≤ p.steps = subst (λ s. 1 ≤ s.parts.steps) c.take_apart-pieces.ensures.same c.requires.room in
-    back-as g.B.Bank.given g.B.Bank.tape c.args.who refusal c.args.still c.of_pieces.result _ _ c.take_apart-pieces.ensures.same c.of_pieces.ensures.same (record {
+    let some : 1 ≤ p.steps = subst (λ s. 1 ≤ s.parts.steps) c.part_fixed-pieces.ensures.same c.requires.room in
+    back-as g.B.Bank.given g.B.Bank.tape c.args.who refusal c.args.still c.of_pieces.result _ _ c.part_fixed-pieces.ensures.same c.of_pieces.ensures.same (record {
       end = end;
       entered = c.append_entry.ensures.items;
       ended = ended-behind (g.B.Bank.tape c.begin-begun.new.bank) c.append_entry.new.epoch.first p.epoch.entries.items c.args.who end [] (Refused refusal) c.append_entry.ensures.items c.ops-end.ensures.count;
@@ -156,26 +160,27 @@ returns-in-Some-refusal-clause-refused g c =
 
 pub returns-in-Some-refusal-clause-caused : goal.returns-in-Some-refusal-clause-caused
 returns-in-Some-refusal-clause-caused g c =
-    let p = c.take_apart-pieces.result in
+    let p = c.part_fixed-pieces.result in
     let refusal = c.in-Some-refusal.refusal in
     let is = c.in-Some-refusal.is in
-    refused-as g.B.Bank.faults_of c.args.to refusal c.args.still c.of_pieces.result _ _ c.take_apart-pieces.ensures.same c.of_pieces.ensures.same (inr (
+    refused-as g.B.Bank.faults_of c.args.to refusal c.args.still c.of_pieces.result _ _ c.part_fixed-pieces.ensures.same c.of_pieces.ensures.same (inr (
       c.in_default.ensures,
       (c.begin-begun.ensures.answer refusal is).0,
       subst (λ (o : Option ℕ). IfSome o (λ slot. IsFaulted slot (g.B.Bank.faults_of p.bank) (g.B.Bank.faults_of c.begin-begun.new.bank))) (sym c.in-Some-backup.is) (c.begin-begun.ensures.refused refusal is).failed,
     ))
 
 pub returns-in-Some-refusal-clause-never_falls : goal.returns-in-Some-refusal-clause-never_falls
-returns-in-Some-refusal-clause-never_falls g c = both-fall-as g.B.Bank.faults_of c.args.still c.of_pieces.result _ _ c.take_apart-pieces.ensures.same c.of_pieces.ensures.same c.begin-begun.ensures.bank.counts
+returns-in-Some-refusal-clause-never_falls g c =
+    both-fall-as g.B.Bank.faults_of c.args.still c.of_pieces.result _ _ c.part_fixed-pieces.ensures.same c.of_pieces.ensures.same c.begin-begun.ensures.bank.counts
 
 -- ---- the steps that are left
 
 pub told_of-told-requires-clause-reshape : goal.told_of-told-requires-clause-reshape
 told_of-told-requires-clause-reshape g c =
-    let p = c.take_apart-pieces.result in
+    let p = c.part_fixed-pieces.result in
     let none = c.in_default-refusal.is in
-    let next = subst (λ s. phases_of s.ahead ≡ Reshape c.args.to ∷ phases_of c.args.behind) c.take_apart-pieces.ensures.same c.requires.next in
-    let sound = next-sound (shape_of p.members.newest) p.members.newest.size (phases_of p.ahead) (phases_of c.args.behind) c.args.to c.take_apart-pieces.ensures.ready.planned next in
+    let next = subst (λ s. phases_of s.ahead ≡ Reshape c.args.to ∷ phases_of c.args.behind) c.part_fixed-pieces.ensures.same c.requires.next in
+    let sound = next-sound (shape_of p.members.newest) p.members.newest.size (phases_of p.ahead) (phases_of c.args.behind) c.args.to c.part_fixed-pieces.ensures.ready.planned next in
     begun-under p.members.newest c.begin-begun.new.members.newest c.args.to (c.begin-begun.ensures.newest none) sound.0 (c.begin-begun.ensures.moved none).placed.fit.position
 
 pub told_of-told-requires-clause-to : goal.told_of-told-requires-clause-to
@@ -183,10 +188,10 @@ told_of-told-requires-clause-to g c = (c.begin-begun.ensures.newest c.in_default
 
 pub told_of-told-requires-clause-sound : goal.told_of-told-requires-clause-sound
 told_of-told-requires-clause-sound g c =
-    let p = c.take_apart-pieces.result in
+    let p = c.part_fixed-pieces.result in
     let none = c.in_default-refusal.is in
-    let next = subst (λ s. phases_of s.ahead ≡ Reshape c.args.to ∷ phases_of c.args.behind) c.take_apart-pieces.ensures.same c.requires.next in
-    let sound = next-sound (shape_of p.members.newest) p.members.newest.size (phases_of p.ahead) (phases_of c.args.behind) c.args.to c.take_apart-pieces.ensures.ready.planned next in
+    let next = subst (λ s. phases_of s.ahead ≡ Reshape c.args.to ∷ phases_of c.args.behind) c.part_fixed-pieces.ensures.same c.requires.next in
+    let sound = next-sound (shape_of p.members.newest) p.members.newest.size (phases_of p.ahead) (phases_of c.args.behind) c.args.to c.part_fixed-pieces.ensures.ready.planned next in
     subst (λ (n : ℕ). AreSound c.args.to n (phases_of c.args.behind)) (sym (c.begin-begun.ensures.newest none).size) sound.2
 
 pub told_of-told-requires-clause-fit : goal.told_of-told-requires-clause-fit
@@ -199,8 +204,8 @@ told_of-told-requires-clause-roles g c = (c.begin-begun.ensures.moved c.in_defau
 
 pub of_pieces-requires-2-clause-ready : goal.of_pieces-requires-2-clause-ready
 of_pieces-requires-2-clause-ready g c =
-    let p = c.take_apart-pieces.result in
-    let same = c.take_apart-pieces.ensures.same in
+    let p = c.part_fixed-pieces.result in
+    let same = c.part_fixed-pieces.ensures.same in
     let given = g.B.Bank.given p.bank in
     let new = c.begin-begun.new.members in
     let did = c.begin-begun.ensures in
@@ -214,7 +219,7 @@ of_pieces-requires-2-clause-ready g c =
     let spares = c.begin-begun.result.spares in
     let was = subst
     (λ (o : Option ℕ). IsReady g.B.Bank.tells given (g.B.Bank.tape p.bank) (scope_in given p.epoch.uuid p.epoch.given o) p.epoch.first p.epoch.entries.items p.members p.work p.ahead p.limit
-    (g.B.Bank.faults_of p.bank) p.steps p.epoch.entries.room (vec_capacity p.rows) (length p.buffer.items) (vec_capacity p.far_rows) (length p.far_buffer.items)) c.in-Some-backup.is c.take_apart-pieces.ensures.ready in
+    (g.B.Bank.faults_of p.bank) p.steps p.epoch.entries.room (vec_capacity p.rows) (length p.buffer.items) (vec_capacity p.far_rows) (length p.far_buffer.items)) c.in-Some-backup.is c.part_fixed-pieces.ensures.ready in
     let turned : HasKeptLength p.epoch.entries.items who = subst (λ s. HasKeptLength s.parts.entries who) same c.requires.open in
     let some : 1 ≤ p.steps = subst (λ s. 1 ≤ s.parts.steps) same c.requires.room in
     let idle = subst (λ s. left_of s.parts.work s.parts.members ≡ 0) same c.requires.done in
@@ -248,9 +253,9 @@ of_pieces-requires-2-clause-ready g c =
 
 pub returns-clause-begun : goal.returns-clause-begun
 returns-clause-begun g c =
-    let p = c.take_apart-pieces.result in
-    let same = c.take_apart-pieces.ensures.same in
-    let was = c.take_apart-pieces.ensures.ready in
+    let p = c.part_fixed-pieces.result in
+    let same = c.part_fixed-pieces.ensures.same in
+    let was = c.part_fixed-pieces.ensures.ready in
     let are = was.kept.members_are in
     let given = g.B.Bank.given p.bank in
     let new = c.begin-begun.new.members in
@@ -303,127 +308,136 @@ returns-clause-begun g c =
 -- ---- what the calls ask for
 
 pub unbegun-requires-clause-shape : goal.unbegun-requires-clause-shape
-unbegun-requires-clause-shape g c = c.take_apart-pieces.ensures.ready.kept.members_are.placed.fit.valid.old
+unbegun-requires-clause-shape g c = c.part_fixed-pieces.ensures.ready.kept.members_are.placed.fit.valid.old
 
 pub unbegun-requires-clause-roles : goal.unbegun-requires-clause-roles
-unbegun-requires-clause-roles g c = c.take_apart-pieces.ensures.ready.kept.members_are.placed.roles
+unbegun-requires-clause-roles g c = c.part_fixed-pieces.ensures.ready.kept.members_are.placed.roles
 
 pub give_back-requires-clause-open : goal.give_back-requires-clause-open
-give_back-requires-clause-open g c = subst (λ s. IsCallGoing s.parts.entries c.args.who) c.take_apart-pieces.ensures.same c.requires.open.goes
+give_back-requires-clause-open g c = subst (λ s. IsCallGoing s.parts.entries c.args.who) c.part_fixed-pieces.ensures.same c.requires.open.goes
 
 pub give_back-requires-clause-room : goal.give_back-requires-clause-room
-give_back-requires-clause-room g c = subst (λ s. 1 ≤ s.parts.steps) c.take_apart-pieces.ensures.same c.requires.room
+give_back-requires-clause-room g c = subst (λ s. 1 ≤ s.parts.steps) c.part_fixed-pieces.ensures.same c.requires.room
 
 pub give_back-requires-clause-why : goal.give_back-requires-clause-why
-give_back-requires-clause-why g c = unbegun-plain c.take_apart-pieces.result.members c.args.to c.in-Some.refusal c.in-Some.ensures
+give_back-requires-clause-why g c = unbegun-plain c.part_fixed-pieces.result.members c.args.to c.in-Some.refusal c.in-Some.ensures
 
 pub unreachable-requires : goal.unreachable-requires
 unreachable-requires g c =
-    let backed = subst (λ s. (slot : ℕ) × (s.parts.backup ≡ Some slot) × IsBackupAt (g.B.Bank.given s.parts.bank) s.parts.members c.args.to slot) c.take_apart-pieces.ensures.same c.requires.backed in
+    let backed = subst (λ s. (slot : ℕ) × (s.parts.backup ≡ Some slot) × IsBackupAt (g.B.Bank.given s.parts.bank) s.parts.members c.args.to slot) c.part_fixed-pieces.ensures.same c.requires.backed in
     c.in_default-backup.not-Some backed.0 backed.1
 
 pub contains-requires : goal.contains-requires
 contains-requires g c =
-    let p = c.take_apart-pieces.result in
-    let backed = subst (λ s. (slot : ℕ) × (s.parts.backup ≡ Some slot) × IsBackupAt (g.B.Bank.given s.parts.bank) s.parts.members c.args.to slot) c.take_apart-pieces.ensures.same c.requires.backed in
-    slot-below c.in-Some-backup.backup (g.B.Bank.given p.bank).slots (backup-here (g.B.Bank.given p.bank) p.members c.args.to p.backup c.in-Some-backup.backup backed c.in-Some-backup.is).known c.take_apart-pieces.ensures.ready.kept.slots
+    let p = c.part_fixed-pieces.result in
+    let backed = subst (λ s. (slot : ℕ) × (s.parts.backup ≡ Some slot) × IsBackupAt (g.B.Bank.given s.parts.bank) s.parts.members c.args.to slot) c.part_fixed-pieces.ensures.same c.requires.backed in
+    slot-below c.in-Some-backup.backup (g.B.Bank.given p.bank).slots (backup-here (g.B.Bank.given p.bank) p.members c.args.to p.backup c.in-Some-backup.backup backed c.in-Some-backup.is).known c.part_fixed-pieces.ensures.ready.kept.slots
 
 pub fail_backup-still-requires-clause-open : goal.fail_backup-still-requires-clause-open
-fail_backup-still-requires-clause-open g c = subst (λ s. IsCallGoing s.parts.entries c.args.who) c.take_apart-pieces.ensures.same c.requires.open.goes
+fail_backup-still-requires-clause-open g c = subst (λ s. IsCallGoing s.parts.entries c.args.who) c.part_fixed-pieces.ensures.same c.requires.open.goes
 
 pub fail_backup-still-requires-clause-room : goal.fail_backup-still-requires-clause-room
-fail_backup-still-requires-clause-room g c = subst (λ s. 1 ≤ s.parts.steps) c.take_apart-pieces.ensures.same c.requires.room
+fail_backup-still-requires-clause-room g c = subst (λ s. 1 ≤ s.parts.steps) c.part_fixed-pieces.ensures.same c.requires.room
 
 pub fail_backup-still-requires-clause-slot : goal.fail_backup-still-requires-clause-slot
 fail_backup-still-requires-clause-slot g c =
-    let p = c.take_apart-pieces.result in
-    let backed = subst (λ s. (slot : ℕ) × (s.parts.backup ≡ Some slot) × IsBackupAt (g.B.Bank.given s.parts.bank) s.parts.members c.args.to slot) c.take_apart-pieces.ensures.same c.requires.backed in
+    let p = c.part_fixed-pieces.result in
+    let backed = subst (λ s. (slot : ℕ) × (s.parts.backup ≡ Some slot) × IsBackupAt (g.B.Bank.given s.parts.bank) s.parts.members c.args.to slot) c.part_fixed-pieces.ensures.same c.requires.backed in
     (backup-here (g.B.Bank.given p.bank) p.members c.args.to p.backup c.in-Some-backup.backup backed c.in-Some-backup.is).known
 
 pub fail_backup-still-requires-clause-failing : goal.fail_backup-still-requires-clause-failing
 fail_backup-still-requires-clause-failing g c = sym c.contains.ensures ∙ c.if-not-contains.true
 
 pub overflow_sub-pieces : goal.overflow_sub-pieces
-overflow_sub-pieces g c = subst (λ s. 1 ≤ s.parts.steps) c.take_apart-pieces.ensures.same c.requires.room
+overflow_sub-pieces g c = subst (λ s. 1 ≤ s.parts.steps) c.part_fixed-pieces.ensures.same c.requires.room
 
 pub check_going-requires : goal.check_going-requires
-check_going-requires g c = subst (λ s. IsCallGoing s.parts.entries c.args.who) c.take_apart-pieces.ensures.same c.requires.open.goes
+check_going-requires g c = subst (λ s. IsCallGoing s.parts.entries c.args.who) c.part_fixed-pieces.ensures.same c.requires.open.goes
 
 pub begin-begun-requires-clause-placed : goal.begin-begun-requires-clause-placed
-begin-begun-requires-clause-placed g c = c.take_apart-pieces.ensures.ready.kept.members_are.placed
+begin-begun-requires-clause-placed g c = c.part_fixed-pieces.ensures.ready.kept.members_are.placed
 
 pub begin-begun-requires-clause-unlost : goal.begin-begun-requires-clause-unlost
-begin-begun-requires-clause-unlost g c = c.take_apart-pieces.ensures.ready.kept.members_are.unlost
+begin-begun-requires-clause-unlost g c = c.part_fixed-pieces.ensures.ready.kept.members_are.unlost
 
 pub begin-begun-requires-clause-free : goal.begin-begun-requires-clause-free
-begin-begun-requires-clause-free g c = c.take_apart-pieces.ensures.ready.kept.members_are.free
+begin-begun-requires-clause-free g c = c.part_fixed-pieces.ensures.ready.kept.members_are.free
 
 pub begin-begun-requires-clause-still : goal.begin-begun-requires-clause-still
-begin-begun-requires-clause-still g c = c.take_apart-pieces.ensures.ready.kept.members_are.still
+begin-begun-requires-clause-still g c = c.part_fixed-pieces.ensures.ready.kept.members_are.still
 
 pub begin-begun-requires-clause-in_force : goal.begin-begun-requires-clause-in_force
 begin-begun-requires-clause-in_force g c =
-    let p = c.take_apart-pieces.result in
-    let next = subst (λ s. phases_of s.ahead ≡ Reshape c.args.to ∷ phases_of c.args.behind) c.take_apart-pieces.ensures.same c.requires.next in
-    (next-sound (shape_of p.members.newest) p.members.newest.size (phases_of p.ahead) (phases_of c.args.behind) c.args.to c.take_apart-pieces.ensures.ready.planned next).0
+    let p = c.part_fixed-pieces.result in
+    let next = subst (λ s. phases_of s.ahead ≡ Reshape c.args.to ∷ phases_of c.args.behind) c.part_fixed-pieces.ensures.same c.requires.next in
+    (next-sound (shape_of p.members.newest) p.members.newest.size (phases_of p.ahead) (phases_of c.args.behind) c.args.to c.part_fixed-pieces.ensures.ready.planned next).0
 
 pub begin-begun-requires-clause-level : goal.begin-begun-requires-clause-level
 begin-begun-requires-clause-level g c =
-    let p = c.take_apart-pieces.result in
-    let next = subst (λ s. phases_of s.ahead ≡ Reshape c.args.to ∷ phases_of c.args.behind) c.take_apart-pieces.ensures.same c.requires.next in
-    (next-sound (shape_of p.members.newest) p.members.newest.size (phases_of p.ahead) (phases_of c.args.behind) c.args.to c.take_apart-pieces.ensures.ready.planned next).1
+    let p = c.part_fixed-pieces.result in
+    let next = subst (λ s. phases_of s.ahead ≡ Reshape c.args.to ∷ phases_of c.args.behind) c.part_fixed-pieces.ensures.same c.requires.next in
+    (next-sound (shape_of p.members.newest) p.members.newest.size (phases_of p.ahead) (phases_of c.args.behind) c.args.to c.part_fixed-pieces.ensures.ready.planned next).1
 
 pub begin-begun-requires-clause-spares : goal.begin-begun-requires-clause-spares
 begin-begun-requires-clause-spares g c = c.in_default.ensures.1
 
 pub begin-begun-requires-clause-slot : goal.begin-begun-requires-clause-slot
 begin-begun-requires-clause-slot g c =
-    let p = c.take_apart-pieces.result in
-    let backed = subst (λ s. (slot : ℕ) × (s.parts.backup ≡ Some slot) × IsBackupAt (g.B.Bank.given s.parts.bank) s.parts.members c.args.to slot) c.take_apart-pieces.ensures.same c.requires.backed in
+    let p = c.part_fixed-pieces.result in
+    let backed = subst (λ s. (slot : ℕ) × (s.parts.backup ≡ Some slot) × IsBackupAt (g.B.Bank.given s.parts.bank) s.parts.members c.args.to slot) c.part_fixed-pieces.ensures.same c.requires.backed in
     (backup-here (g.B.Bank.given p.bank) p.members c.args.to p.backup c.in-Some-backup.backup backed c.in-Some-backup.is).known
 
 pub begin-begun-requires-clause-within : goal.begin-begun-requires-clause-within
 begin-begun-requires-clause-within g c =
-    let p = c.take_apart-pieces.result in
-    let backed = subst (λ s. (slot : ℕ) × (s.parts.backup ≡ Some slot) × IsBackupAt (g.B.Bank.given s.parts.bank) s.parts.members c.args.to slot) c.take_apart-pieces.ensures.same c.requires.backed in
+    let p = c.part_fixed-pieces.result in
+    let backed = subst (λ s. (slot : ℕ) × (s.parts.backup ≡ Some slot) × IsBackupAt (g.B.Bank.given s.parts.bank) s.parts.members c.args.to slot) c.part_fixed-pieces.ensures.same c.requires.backed in
     has-one (phase_window (shape_of p.members.newest) p.members.newest.size (Reshape c.args.to)) ((g.B.Bank.given p.bank).sectors c.in-Some-backup.backup)
     (backup-here (g.B.Bank.given p.bank) p.members c.args.to p.backup c.in-Some-backup.backup backed c.in-Some-backup.is).room
 
 pub append_entry-requires-clause-room : goal.append_entry-requires-clause-room
 append_entry-requires-clause-room g c =
-    room-for 1 c.take_apart-pieces.result.steps c.take_apart-pieces.result.epoch.entries.room c.take_apart-pieces.ensures.ready.room_left (subst (λ s. 1 ≤ s.parts.steps) c.take_apart-pieces.ensures.same c.requires.room) (omega arith)
+    room-for 1 c.part_fixed-pieces.result.steps c.part_fixed-pieces.result.epoch.entries.room c.part_fixed-pieces.ensures.ready.room_left (subst (λ s. 1 ≤ s.parts.steps) c.part_fixed-pieces.ensures.same c.requires.room) (omega arith)
 
 pub enter_begun-requires-clause-room : goal.enter_begun-requires-clause-room
 enter_begun-requires-clause-room g c =
-    room-for 50 c.take_apart-pieces.result.steps c.take_apart-pieces.result.epoch.entries.room c.take_apart-pieces.ensures.ready.room_left (subst (λ s. 1 ≤ s.parts.steps) c.take_apart-pieces.ensures.same c.requires.room) (omega arith)
+    room-for 50 c.part_fixed-pieces.result.steps c.part_fixed-pieces.result.epoch.entries.room c.part_fixed-pieces.ensures.ready.room_left (subst (λ s. 1 ≤ s.parts.steps) c.part_fixed-pieces.ensures.same c.requires.room) (omega arith)
 
 -- ---- what is as it was
 
 pub returns-in-Some-clause-refused : goal.returns-in-Some-clause-refused
 returns-in-Some-clause-refused g c =
-    given-back g.B.Bank.given g.B.Bank.tape (g.B.Bank.tape c.give_back.result.parts.bank) (g.B.Bank.tape c.take_apart-pieces.result.bank) c.args.who c.in-Some.refusal c.args.still c.give_back.result _ c.take_apart-pieces.ensures.same
+    given-back g.B.Bank.given g.B.Bank.tape (g.B.Bank.tape c.give_back.result.parts.bank) (g.B.Bank.tape c.part_fixed-pieces.result.bank) c.args.who c.in-Some.refusal c.args.still c.give_back.result _ c.part_fixed-pieces.ensures.same
     (ap g.B.Bank.tape c.give_back.ensures.bank) c.give_back.ensures.back
 
 pub returns-in-Some-clause-never_falls : goal.returns-in-Some-clause-never_falls
-returns-in-Some-clause-never_falls g c = falls-as g.B.Bank.faults_of c.args.still _ (g.B.Bank.faults_of c.give_back.result.parts.bank) c.take_apart-pieces.ensures.same
-    (none-fall g.B.Bank.faults_of c.take_apart-pieces.result.bank c.give_back.result.parts.bank c.give_back.ensures.bank)
+returns-in-Some-clause-never_falls g c =
+    falls-as g.B.Bank.faults_of c.args.still _ (g.B.Bank.faults_of c.give_back.result.parts.bank) c.part_fixed-pieces.ensures.same
+    (none-fall g.B.Bank.faults_of c.part_fixed-pieces.result.bank c.give_back.result.parts.bank c.give_back.ensures.bank)
 
 pub returns-in-Some-clause-left_given : goal.returns-in-Some-clause-left_given
-returns-in-Some-clause-left_given g c = still-given g.B.Bank.given c.args.still _ (g.B.Bank.given c.give_back.result.parts.bank) c.take_apart-pieces.ensures.same (ap g.B.Bank.given c.give_back.ensures.bank)
+returns-in-Some-clause-left_given g c =
+    still-given g.B.Bank.given c.args.still _ (g.B.Bank.given c.give_back.result.parts.bank) c.part_fixed-pieces.ensures.same (ap g.B.Bank.given c.give_back.ensures.bank)
 
 pub returns-then-not-contains-clause-refused : goal.returns-then-not-contains-clause-refused
 returns-then-not-contains-clause-refused g c =
-    given-back g.B.Bank.given g.B.Bank.tape (g.B.Bank.tape c.fail_backup-still.result.parts.bank) (g.B.Bank.tape c.fail_backup-still.result.parts.bank) c.args.who BackupFault c.args.still c.fail_backup-still.result _ c.take_apart-pieces.ensures.same
+    given-back g.B.Bank.given g.B.Bank.tape (g.B.Bank.tape c.fail_backup-still.result.parts.bank) (g.B.Bank.tape c.fail_backup-still.result.parts.bank) c.args.who BackupFault c.args.still c.fail_backup-still.result _ c.part_fixed-pieces.ensures.same
     refl c.fail_backup-still.ensures.back
 
 pub returns-then-not-contains-clause-left_given : goal.returns-then-not-contains-clause-left_given
-returns-then-not-contains-clause-left_given g c = still-given g.B.Bank.given c.args.still _ (g.B.Bank.given c.fail_backup-still.result.parts.bank) c.take_apart-pieces.ensures.same c.fail_backup-still.ensures.given
+returns-then-not-contains-clause-left_given g c =
+    still-given g.B.Bank.given c.args.still _ (g.B.Bank.given c.fail_backup-still.result.parts.bank) c.part_fixed-pieces.ensures.same c.fail_backup-still.ensures.given
 
 pub returns-in-Some-refusal-clause-grows : goal.returns-in-Some-refusal-clause-grows
-returns-in-Some-refusal-clause-grows g c = both-grow g.B.Bank.tape c.args.still c.of_pieces.result _ _ c.take_apart-pieces.ensures.same c.of_pieces.ensures.same c.begin-begun.ensures.bank.grows
+returns-in-Some-refusal-clause-grows g c =
+    both-grow g.B.Bank.tape c.args.still c.of_pieces.result _ _ c.part_fixed-pieces.ensures.same c.of_pieces.ensures.same c.begin-begun.ensures.bank.grows
 
 pub returns-in-Some-refusal-clause-left_given : goal.returns-in-Some-refusal-clause-left_given
-returns-in-Some-refusal-clause-left_given g c = both-given g.B.Bank.given c.args.still c.of_pieces.result _ _ c.take_apart-pieces.ensures.same c.of_pieces.ensures.same c.begin-begun.ensures.bank.same
+returns-in-Some-refusal-clause-left_given g c =
+    both-given g.B.Bank.given c.args.still c.of_pieces.result _ _ c.part_fixed-pieces.ensures.same c.of_pieces.ensures.same c.begin-begun.ensures.bank.same
 
 pub returns-clause-given : goal.returns-clause-given
-returns-clause-given g c = both-given g.B.Bank.given c.args.still c.of_pieces-2.result _ _ c.take_apart-pieces.ensures.same c.of_pieces-2.ensures.same c.begin-begun.ensures.bank.same
+returns-clause-given g c =
+    both-given g.B.Bank.given c.args.still c.of_pieces-2.result _ _ c.part_fixed-pieces.ensures.same c.of_pieces-2.ensures.same c.begin-begun.ensures.bank.same
+
+-- by hand: ['Still', 'Moving'] for of_pieces in their order
+

@@ -9,8 +9,8 @@ use Rattle.array_fixed_sync.proofs.array_fixed_laws_Plain.{turned-plain, turns-f
 use Rattle.array_transition.proofs.GivenBack.{plain-stands}
 use Rattle.array_transition.proofs.beginning.give_back.Goals as goal
 
-pub of_pieces-requires : goal.of_pieces-requires
-of_pieces-requires g c =
+pub of_fixed-requires : goal.of_fixed-requires
+of_fixed-requires g c =
     let was = c.requires.ready in
     let a = c.args.pieces in
     let given = g.B.Bank.given a.bank in

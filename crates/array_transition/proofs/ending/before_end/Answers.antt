@@ -19,4 +19,5 @@ unassigned_roles-requires-clause-few c =
     omega (arith, few, count, long)
 
 pub returns-clause-vacant : goal.returns-clause-vacant
-returns-clause-vacant c role = c.unassigned_roles.ensures role ∙ ap (λ (n : ℕ). nat_lt role n && is_unassigned (reading_of c.args.members.now) role) c.len-count.ensures
+returns-clause-vacant c role =
+    c.unassigned_roles.ensures role ∙ ap (λ (n : ℕ). nat_lt role n && is_unassigned (reading_of c.args.members.now) role) c.len-count.ensures

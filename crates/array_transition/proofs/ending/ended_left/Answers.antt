@@ -3,4 +3,5 @@ use Rattle.array_fixed_sync.proofs.array_fixed_laws_Left.{left-few}
 use Rattle.array_transition.proofs.ending.ended_left.Goals as goal
 
 pub overflow_add-result : goal.overflow_add-result
-overflow_add-result c = let few = left-few c.args.work.now c.args.members.now c.requires.shape c.requires.size in omega (arith, few, c.steps_left-left.ensures, c.planned_left.ensures.few)
+overflow_add-result c =
+    let few = left-few c.args.work.now c.args.members.now c.requires.shape c.requires.size in omega (arith, few, c.steps_left-left.ensures, c.planned_left.ensures.few)

@@ -54,17 +54,17 @@ use Rattle.array_transition.proofs.ending.finish_reshape.Goals as goal
 
 pub of_pieces-requires-clause-ready : goal.of_pieces-requires-clause-ready
 of_pieces-requires-clause-ready g c =
-    let p = c.take_apart-pieces.result.0 in
-    let course = c.take_apart-pieces.result.1 in
-    let window = c.take_apart-pieces.result.2 in
-    let was = c.take_apart-pieces.ensures.ready in
+    let p = c.part_reshaping-pieces.result.0 in
+    let course = c.part_reshaping-pieces.result.1 in
+    let window = c.part_reshaping-pieces.result.2 in
+    let was = c.part_reshaping-pieces.ensures.ready in
     let given = g.B.Bank.given p.bank in
     let scope = scope_in given p.epoch.uuid p.epoch.given p.backup in
     let who = c.args.who in
     let end = c.ops-end.result in
     let refusal = c.in-Some-too_many.refusal in
-    let goes : IsCallGoing p.epoch.entries.items who = subst (λ s. IsCallGoing s.parts.entries who) c.take_apart-pieces.ensures.same c.requires.open in
-    let some : 2 ≤ p.steps = subst (λ s. 2 ≤ s.parts.steps) c.take_apart-pieces.ensures.same c.requires.room in
+    let goes : IsCallGoing p.epoch.entries.items who = subst (λ s. IsCallGoing s.parts.entries who) c.part_reshaping-pieces.ensures.same c.requires.open in
+    let some : 2 ≤ p.steps = subst (λ s. 2 ≤ s.parts.steps) c.part_reshaping-pieces.ensures.same c.requires.room in
     let kept = resting-moves g.B.Bank.tells given (g.B.Bank.tape p.bank) scope p.epoch.first p.epoch.entries.items p.members (bears p.work) p.work.resync course (bytes_in course.window window.items) (left_in p.work p.members course p.ahead)
     who end (Refused refusal) was.kept goes (not_254 who.caller c.requires.caller) c.ops-end.ensures.count (quiet-refusal refusal) (λ told is. is)
     (λ t right. refused-right (world_in given (g.B.Bank.tape p.bank) scope p.epoch.first) p.epoch.entries.items given p.members was.kept.members_are.placed (was.kept.gone t right) (was.kept.levelled t right) refusal c.in-Some-too_many.ensures) in
@@ -74,21 +74,21 @@ of_pieces-requires-clause-ready g c =
 
 pub returns-in-Some-too_many-clause-refused : goal.returns-in-Some-too_many-clause-refused
 returns-in-Some-too_many-clause-refused g c =
-    behind-as c.args.who (Refused c.in-Some-too_many.refusal) c.args.moving c.of_pieces.result _ _ c.take_apart-pieces.ensures.same c.of_pieces.ensures.same (behind-alone c.args.who c.ops-end.result (Refused c.in-Some-too_many.refusal) refl c.append_entry.ensures.items)
+    behind-as c.args.who (Refused c.in-Some-too_many.refusal) c.args.moving c.of_pieces.result _ _ c.part_reshaping-pieces.ensures.same c.of_pieces.ensures.same (behind-alone c.args.who c.ops-end.result (Refused c.in-Some-too_many.refusal) refl c.append_entry.ensures.items)
 
 pub returns-in-Some-too_many-clause-caused : goal.returns-in-Some-too_many-clause-caused
 returns-in-Some-too_many-clause-caused g c = many-as c.of_pieces.result _ c.in-Some-too_many.refusal c.of_pieces.ensures.same c.in-Some-too_many.ensures
 
 pub returns-in-Some-too_many-clause-called : goal.returns-in-Some-too_many-clause-called
 returns-in-Some-too_many-clause-called g c =
-    let p = c.take_apart-pieces.result.0 in
-    let was = c.take_apart-pieces.ensures.ready in
+    let p = c.part_reshaping-pieces.result.0 in
+    let was = c.part_reshaping-pieces.ensures.ready in
     let given = g.B.Bank.given p.bank in
     let faults = g.B.Bank.faults_of p.bank in
     let who = c.args.who in
     let end = c.ops-end.result in
     let refusal = c.in-Some-too_many.refusal in
-    called-as g.B.Bank.given g.B.Bank.tape g.B.Bank.faults_of c.args.moving c.of_pieces.result _ _ c.take_apart-pieces.ensures.same c.of_pieces.ensures.same
+    called-as g.B.Bank.given g.B.Bank.tape g.B.Bank.faults_of c.args.moving c.of_pieces.result _ _ c.part_reshaping-pieces.ensures.same c.of_pieces.ensures.same
     (called (grows-none (λ t. refl)) (moved-same given given p.members p.members refl refl was.kept.members_are.placed was.kept.members_are.unlost)
     (ended-behind (g.B.Bank.tape p.bank) c.append_entry.new.epoch.first p.epoch.entries.items who end [] (Refused refusal) c.append_entry.ensures.items c.ops-end.ensures.count)
     (alone-lossless p.members faults faults p.epoch.entries.items p.epoch.entries.items c.append_entry.new.epoch.entries.items who end (Refused refusal) tt refl c.append_entry.ensures.items)
@@ -99,30 +99,30 @@ returns-in-Some-too_many-clause-called g c =
 -- ---- what is asked of the parts
 
 pub before_end-was-requires-clause-small : goal.before_end-was-requires-clause-small
-before_end-was-requires-clause-small g c role slot held = (c.take_apart-pieces.ensures.ready.kept.members_are.placed.holders role slot held).small
+before_end-was-requires-clause-small g c role slot held = (c.part_reshaping-pieces.ensures.ready.kept.members_are.placed.holders role slot held).small
 
 pub finish-done-requires-clause-last : goal.finish-done-requires-clause-last
 finish-done-requires-clause-last g c =
-    let p = c.take_apart-pieces.result.0 in
-    let kept = c.take_apart-pieces.ensures.ready.kept in
-    let due = subst (λ s. due_of s.parts.members.newest s.course s.parts.work.resync ≡ Finish) c.take_apart-pieces.ensures.same c.requires.due in
-    (end-due p.members.newest c.take_apart-pieces.result.1 p.work.resync kept.members_are.placed.fit kept.members_are.active kept.course_is kept.progress due).1.last
+    let p = c.part_reshaping-pieces.result.0 in
+    let kept = c.part_reshaping-pieces.ensures.ready.kept in
+    let due = subst (λ s. due_of s.parts.members.newest s.course s.parts.work.resync ≡ Finish) c.part_reshaping-pieces.ensures.same c.requires.due in
+    (end-due p.members.newest c.part_reshaping-pieces.result.1 p.work.resync kept.members_are.placed.fit kept.members_are.active kept.course_is kept.progress due).1.last
 
 pub newly_unassigned-roles-requires-clause-known : goal.newly_unassigned-roles-requires-clause-known
 newly_unassigned-roles-requires-clause-known g c =
-    let p = c.take_apart-pieces.result.0 in
+    let p = c.part_reshaping-pieces.result.0 in
     let m = c.finish-done.new.members in
     let moved = (c.finish-done.ensures.refused c.in-Some-refusal.refusal c.in-Some-refusal.is).1 in
     let count = c.before_end-was.ensures.count in
-    let long = c.take_apart-pieces.ensures.ready.kept.members_are.placed.roles in
+    let long = c.part_reshaping-pieces.ensures.ready.kept.members_are.placed.roles in
     let same = count-alike p.members.newest m.newest moved.reshape moved.shape moved.size in
     let then = moved.placed.roles in
     omega (arith, count, long, same, then)
 
 pub newly_unassigned-roles-requires-clause-few : goal.newly_unassigned-roles-requires-clause-few
 newly_unassigned-roles-requires-clause-few g c =
-    let placed = c.take_apart-pieces.ensures.ready.kept.members_are.placed in
-    let few = few-roles c.take_apart-pieces.result.0.members.newest placed.fit.valid in
+    let placed = c.part_reshaping-pieces.ensures.ready.kept.members_are.placed in
+    let few = few-roles c.part_reshaping-pieces.result.0.members.newest placed.fit.valid in
     let count = c.before_end-was.ensures.count in
     let long = placed.roles in
     omega (arith, few, count, long)
@@ -132,10 +132,10 @@ ended_left-left-requires-clause-size g c = fit-short c.finish-done.new.members.n
 
 pub ended_left-left-requires-clause-progress : goal.ended_left-left-requires-clause-progress
 ended_left-left-requires-clause-progress g c =
-    let p = c.take_apart-pieces.result.0 in
-    let kept = c.take_apart-pieces.ensures.ready.kept in
-    let due = subst (λ s. due_of s.parts.members.newest s.course s.parts.work.resync ≡ Finish) c.take_apart-pieces.ensures.same c.requires.due in
-    let at = end-due p.members.newest c.take_apart-pieces.result.1 p.work.resync kept.members_are.placed.fit kept.members_are.active kept.course_is kept.progress due in
+    let p = c.part_reshaping-pieces.result.0 in
+    let kept = c.part_reshaping-pieces.ensures.ready.kept in
+    let due = subst (λ s. due_of s.parts.members.newest s.course s.parts.work.resync ≡ Finish) c.part_reshaping-pieces.ensures.same c.requires.due in
+    let at = end-due p.members.newest c.part_reshaping-pieces.result.1 p.work.resync kept.members_are.placed.fit kept.members_are.active kept.course_is kept.progress due in
     subst (λ (o : Option ℕ). IfSome o (λ mended. mended ≤ stripes_of c.finish-done.new.members)) (sym at.2) tt
 
 pub told_of-told-requires-clause-size : goal.told_of-told-requires-clause-size
@@ -145,15 +145,15 @@ told_of-told-requires-clause-size g c = fit-short c.finish-done.new.members.newe
 
 pub of_pieces-requires-in-Some-refusal-clause-ready : goal.of_pieces-requires-in-Some-refusal-clause-ready
 of_pieces-requires-in-Some-refusal-clause-ready g c =
-    let p = c.take_apart-pieces.result.0 in
-    let course = c.take_apart-pieces.result.1 in
-    let was = c.take_apart-pieces.ensures.ready in
+    let p = c.part_reshaping-pieces.result.0 in
+    let course = c.part_reshaping-pieces.result.1 in
+    let was = c.part_reshaping-pieces.ensures.ready in
     let here = was.kept.members_are in
     let given = g.B.Bank.given p.bank in
     let scope = scope_in given p.epoch.uuid p.epoch.given p.backup in
     let who = c.args.who in
-    let goes : IsCallGoing p.epoch.entries.items who = subst (λ s. IsCallGoing s.parts.entries who) c.take_apart-pieces.ensures.same c.requires.open in
-    let some : 2 ≤ p.steps = subst (λ s. 2 ≤ s.parts.steps) c.take_apart-pieces.ensures.same c.requires.room in
+    let goes : IsCallGoing p.epoch.entries.items who = subst (λ s. IsCallGoing s.parts.entries who) c.part_reshaping-pieces.ensures.same c.requires.open in
+    let some : 2 ≤ p.steps = subst (λ s. 2 ≤ s.parts.steps) c.part_reshaping-pieces.ensures.same c.requires.room in
     let m = c.finish-done.new.members in
     let did = c.finish-done.ensures in
     let before = g.B.Bank.faults_of p.bank in
@@ -180,14 +180,14 @@ of_pieces-requires-in-Some-refusal-clause-ready g c =
 
 pub returns-in-Some-refusal-clause-caused : goal.returns-in-Some-refusal-clause-caused
 returns-in-Some-refusal-clause-caused g c =
-    let p = c.take_apart-pieces.result.0 in
+    let p = c.part_reshaping-pieces.result.0 in
     let m = c.finish-done.new.members in
     many-as c.of_pieces-in-Some-refusal.result _ c.in-Some-refusal.refusal c.of_pieces-in-Some-refusal.ensures.same (subst (λ (o : Option Refusal). MatchOption o (IsOver p.members.newest m.newest) (AreTooMany m)) c.in-Some-refusal.is c.finish-done.ensures.answer)
 
 pub returns-in-Some-refusal-clause-called : goal.returns-in-Some-refusal-clause-called
 returns-in-Some-refusal-clause-called g c =
-    let p = c.take_apart-pieces.result.0 in
-    let was = c.take_apart-pieces.ensures.ready in
+    let p = c.part_reshaping-pieces.result.0 in
+    let was = c.part_reshaping-pieces.ensures.ready in
     let here = was.kept.members_are in
     let given = g.B.Bank.given p.bank in
     let who = c.args.who in
@@ -206,7 +206,7 @@ returns-in-Some-refusal-clause-called g c =
     let since = lost-since given p.members m c.before_end-was.result.count vacant roles spares before after here.placed moved failed
     (c.before_end-was.ensures.count ∙ here.placed.roles)
     (λ role. c.before_end-was.ensures.vacant role ∙ ap (λ (n : ℕ). nat_lt role n && is_unassigned (reading_of p.members) role) (sym c.before_end-was.ensures.count)) c.newly_unassigned-roles.ensures in
-    called-as g.B.Bank.given g.B.Bank.tape g.B.Bank.faults_of c.args.moving c.of_pieces-in-Some-refusal.result _ _ c.take_apart-pieces.ensures.same c.of_pieces-in-Some-refusal.ensures.same (called did.bank.grows moved
+    called-as g.B.Bank.given g.B.Bank.tape g.B.Bank.faults_of c.args.moving c.of_pieces-in-Some-refusal.result _ _ c.part_reshaping-pieces.ensures.same c.of_pieces-in-Some-refusal.ensures.same (called did.bank.grows moved
     (ended-behind (g.B.Bank.tape c.finish-done.new.bank) c.append_after_losses.new.epoch.first p.epoch.entries.items who end (losses_of roles spares) (Refused refusal) c.append_after_losses.ensures.items c.ops-end-2.ensures.count)
     (losses-behind p.members m before after p.epoch.entries.items p.epoch.entries.items c.append_after_losses.new.epoch.entries.items who end roles spares (Refused refusal) since tt refl c.append_after_losses.ensures.items)
     did.bank.counts
@@ -217,9 +217,9 @@ returns-in-Some-refusal-clause-called g c =
 
 pub of_pieces-requires-2 : goal.of_pieces-requires-2
 of_pieces-requires-2 g c =
-    let p = c.take_apart-pieces.result.0 in
-    let same = c.take_apart-pieces.ensures.same in
-    let was = c.take_apart-pieces.ensures.ready in
+    let p = c.part_reshaping-pieces.result.0 in
+    let same = c.part_reshaping-pieces.ensures.same in
+    let was = c.part_reshaping-pieces.ensures.ready in
     let here = was.kept.members_are in
     let given = g.B.Bank.given p.bank in
     let tape = g.B.Bank.tape p.bank in
@@ -228,7 +228,7 @@ of_pieces-requires-2 g c =
     let some : 2 ≤ p.steps = subst (λ s. 2 ≤ s.parts.steps) same c.requires.room in
     let due = subst (λ s. due_of s.parts.members.newest s.course s.parts.work.resync ≡ Finish) same c.requires.due in
     let plans = subst (λ s. ArePlansKept g.B.Bank.tells (moving_world (g.B.Bank.given s.parts.bank) (g.B.Bank.tape s.parts.bank) s) s) same c.requires.plans in
-    let at = end-due p.members.newest c.take_apart-pieces.result.1 p.work.resync here.placed.fit here.active was.kept.course_is was.kept.progress due in
+    let at = end-due p.members.newest c.part_reshaping-pieces.result.1 p.work.resync here.placed.fit here.active was.kept.course_is was.kept.progress due in
     let m = c.finish-done.new.members in
     let did = c.finish-done.ensures in
     let none = c.in_default-refusal.is in
@@ -263,7 +263,7 @@ of_pieces-requires-2 g c =
     record {
       ready = ended-ready p.ahead who end c.before_end-was.result.vacant roles spares c.finish-done.result.lost told.late told.late_spares was at.0 at.2 goes c.requires.caller at.1.last finished c.ops-end-2.ensures.count
           c.before_end-was.ensures.vacant tell.late
-          (finish-stepped given p.members m p.work p.ahead c.take_apart-pieces.result.1 who end c.before_end-was.result.vacant roles spares told.late told.late_spares here.placed here.whole at.0 at.1 did.placed over at.2
+          (finish-stepped given p.members m p.work p.ahead c.part_reshaping-pieces.result.1 who end c.before_end-was.result.vacant roles spares told.late told.late_spares here.placed here.whole at.0 at.1 did.placed over at.2
           did.states c.before_end-was.ensures.vacant tell.late)
           plans did.bank.same (scope-same given p.backup did.bank.same c.enter_ended.ensures.uuid c.enter_ended.ensures.given) c.enter_ended.ensures.first refl items
           (let had = was.room_left in let room = c.enter_ended.ensures.room in omega (arith, had, room, some));
@@ -271,15 +271,15 @@ of_pieces-requires-2 g c =
 
 pub returns-clause-ended : goal.returns-clause-ended
 returns-clause-ended g c =
-    let p = c.take_apart-pieces.result.0 in
-    let same = c.take_apart-pieces.ensures.same in
-    let was = c.take_apart-pieces.ensures.ready in
+    let p = c.part_reshaping-pieces.result.0 in
+    let same = c.part_reshaping-pieces.ensures.same in
+    let was = c.part_reshaping-pieces.ensures.ready in
     let here = was.kept.members_are in
     let given = g.B.Bank.given p.bank in
     let who = c.args.who in
     let some : 2 ≤ p.steps = subst (λ s. 2 ≤ s.parts.steps) same c.requires.room in
     let due = subst (λ s. due_of s.parts.members.newest s.course s.parts.work.resync ≡ Finish) same c.requires.due in
-    let at = end-due p.members.newest c.take_apart-pieces.result.1 p.work.resync here.placed.fit here.active was.kept.course_is was.kept.progress due in
+    let at = end-due p.members.newest c.part_reshaping-pieces.result.1 p.work.resync here.placed.fit here.active was.kept.course_is was.kept.progress due in
     let m = c.finish-done.new.members in
     let did = c.finish-done.ensures in
     let none = c.in_default-refusal.is in
@@ -312,7 +312,7 @@ returns-clause-ended g c =
         late = told.late;
         late_spares = told.late_spares;
         end = end;
-        roles_told = roles-told given p.members m p.work p.ahead c.take_apart-pieces.result.1 who end vacant roles spares told.late told.late_spares here.placed here.whole at.0 at.1 did.placed over at.2
+        roles_told = roles-told given p.members m p.work p.ahead c.part_reshaping-pieces.result.1 who end vacant roles spares told.late told.late_spares here.placed here.whole at.0 at.1 did.placed over at.2
             did.states c.before_end-was.ensures.vacant tell.late;
         spares_told = spares-told given p.members m c.before_end-was.result.held roles spares lost told.late_spares before after here.placed here.free did.placed over did.failed tell.late_spares c.before_end-was.ensures.only;
         dropped_told = dropped-told given p.members m c.before_end-was.result.held roles spares lost told.late_spares before after here.placed here.free did.placed over did.failed tell.late_spares c.before_end-was.ensures.only;
@@ -322,7 +322,7 @@ returns-clause-ended g c =
           ∙ ending-last who end roles spares left longer long told.late told.late_spares c.enter_ended.new.epoch.first p.epoch.entries.items ∙ c.ops-end-2.ensures.count t;
       grows = did.bank.grows;
       over = over;
-      left = λ whole none_told. finish-left given p.members m p.work p.ahead c.take_apart-pieces.result.1 who end vacant roles spares told.late told.late_spares here.placed here.whole at.0 at.1 did.placed over at.2
+      left = λ whole none_told. finish-left given p.members m p.work p.ahead c.part_reshaping-pieces.result.1 who end vacant roles spares told.late told.late_spares here.placed here.whole at.0 at.1 did.placed over at.2
           did.states c.before_end-was.ensures.vacant tell.late whole
           (none-lost p.epoch.entries.items c.enter_ended.new.epoch.entries.items who end roles spares left long told.late told.late_spares longer items none_told);
       long = ended-long p.members m over;
@@ -349,45 +349,49 @@ returns-clause-ended g c =
 -- ---- what the calls ask for
 
 pub overflow_sub-pieces : goal.overflow_sub-pieces
-overflow_sub-pieces g c = subst (λ s. 2 ≤ s.parts.steps) c.take_apart-pieces.ensures.same c.requires.room
+overflow_sub-pieces g c = subst (λ s. 2 ≤ s.parts.steps) c.part_reshaping-pieces.ensures.same c.requires.room
 
 pub check_going-requires : goal.check_going-requires
-check_going-requires g c = subst (λ s. IsCallGoing s.parts.entries c.args.who) c.take_apart-pieces.ensures.same c.requires.open
+check_going-requires g c = subst (λ s. IsCallGoing s.parts.entries c.args.who) c.part_reshaping-pieces.ensures.same c.requires.open
 
 pub too_many-requires-clause-shapes : goal.too_many-requires-clause-shapes
-too_many-requires-clause-shapes g c = c.take_apart-pieces.ensures.ready.kept.members_are.placed.fit.valid
+too_many-requires-clause-shapes g c = c.part_reshaping-pieces.ensures.ready.kept.members_are.placed.fit.valid
 
 pub too_many-requires-clause-roles : goal.too_many-requires-clause-roles
-too_many-requires-clause-roles g c = c.take_apart-pieces.ensures.ready.kept.members_are.placed.roles
+too_many-requires-clause-roles g c = c.part_reshaping-pieces.ensures.ready.kept.members_are.placed.roles
 
 pub append_entry-requires-clause-room : goal.append_entry-requires-clause-room
-append_entry-requires-clause-room g c = room-for-two 1 c.take_apart-pieces.result.0.steps c.take_apart-pieces.result.0.epoch.entries.room c.take_apart-pieces.ensures.ready.room_left (subst (λ s. 2 ≤ s.parts.steps) c.take_apart-pieces.ensures.same c.requires.room) (omega arith)
+append_entry-requires-clause-room g c =
+    room-for-two 1 c.part_reshaping-pieces.result.0.steps c.part_reshaping-pieces.result.0.epoch.entries.room c.part_reshaping-pieces.ensures.ready.room_left (subst (λ s. 2 ≤ s.parts.steps) c.part_reshaping-pieces.ensures.same c.requires.room) (omega arith)
 
 pub before_end-was-requires-clause-fit : goal.before_end-was-requires-clause-fit
-before_end-was-requires-clause-fit g c = c.take_apart-pieces.ensures.ready.kept.members_are.placed.fit
+before_end-was-requires-clause-fit g c = c.part_reshaping-pieces.ensures.ready.kept.members_are.placed.fit
 
 pub before_end-was-requires-clause-roles : goal.before_end-was-requires-clause-roles
-before_end-was-requires-clause-roles g c = c.take_apart-pieces.ensures.ready.kept.members_are.placed.roles
+before_end-was-requires-clause-roles g c = c.part_reshaping-pieces.ensures.ready.kept.members_are.placed.roles
 
 pub finish-done-requires-clause-stands : goal.finish-done-requires-clause-stands
-finish-done-requires-clause-stands g c = record {
-  slots = c.take_apart-pieces.ensures.ready.kept.slots;
-  placed = c.take_apart-pieces.ensures.ready.kept.members_are.placed;
-  unlost = c.take_apart-pieces.ensures.ready.kept.members_are.unlost;
-  free = c.take_apart-pieces.ensures.ready.kept.members_are.free;
+finish-done-requires-clause-stands g c =
+    record {
+  slots = c.part_reshaping-pieces.ensures.ready.kept.slots;
+  placed = c.part_reshaping-pieces.ensures.ready.kept.members_are.placed;
+  unlost = c.part_reshaping-pieces.ensures.ready.kept.members_are.unlost;
+  free = c.part_reshaping-pieces.ensures.ready.kept.members_are.free;
 }
 
 pub finish-done-requires-clause-active : goal.finish-done-requires-clause-active
-finish-done-requires-clause-active g c = c.take_apart-pieces.ensures.ready.kept.members_are.active
+finish-done-requires-clause-active g c = c.part_reshaping-pieces.ensures.ready.kept.members_are.active
 
 pub finish-done-requires-clause-whole : goal.finish-done-requires-clause-whole
-finish-done-requires-clause-whole g c = c.take_apart-pieces.ensures.ready.kept.members_are.whole
+finish-done-requires-clause-whole g c = c.part_reshaping-pieces.ensures.ready.kept.members_are.whole
 
 pub append_after_losses-requires-clause-room : goal.append_after_losses-requires-clause-room
-append_after_losses-requires-clause-room g c = room-for-two 49 c.take_apart-pieces.result.0.steps c.take_apart-pieces.result.0.epoch.entries.room c.take_apart-pieces.ensures.ready.room_left (subst (λ s. 2 ≤ s.parts.steps) c.take_apart-pieces.ensures.same c.requires.room) (omega arith)
+append_after_losses-requires-clause-room g c =
+    room-for-two 49 c.part_reshaping-pieces.result.0.steps c.part_reshaping-pieces.result.0.epoch.entries.room c.part_reshaping-pieces.ensures.ready.room_left (subst (λ s. 2 ≤ s.parts.steps) c.part_reshaping-pieces.ensures.same c.requires.room) (omega arith)
 
 pub enter_ended-requires-clause-room : goal.enter_ended-requires-clause-room
-enter_ended-requires-clause-room g c = room-for-two 98 c.take_apart-pieces.result.0.steps c.take_apart-pieces.result.0.epoch.entries.room c.take_apart-pieces.ensures.ready.room_left (subst (λ s. 2 ≤ s.parts.steps) c.take_apart-pieces.ensures.same c.requires.room) (omega arith)
+enter_ended-requires-clause-room g c =
+    room-for-two 98 c.part_reshaping-pieces.result.0.steps c.part_reshaping-pieces.result.0.epoch.entries.room c.part_reshaping-pieces.ensures.ready.room_left (subst (λ s. 2 ≤ s.parts.steps) c.part_reshaping-pieces.ensures.same c.requires.room) (omega arith)
 
 pub ended_left-left-requires-clause-shape : goal.ended_left-left-requires-clause-shape
 ended_left-left-requires-clause-shape g c = c.finish-done.ensures.placed.fit.valid.old
@@ -398,34 +402,43 @@ told_of-told-requires-clause-shape g c = c.finish-done.ensures.placed.fit.valid.
 -- ---- what is as it was
 
 pub returns-in-Some-too_many-clause-course : goal.returns-in-Some-too_many-clause-course
-returns-in-Some-too_many-clause-course g c = both-course c.args.moving c.of_pieces.result _ _ c.take_apart-pieces.ensures.same c.of_pieces.ensures.same refl
+returns-in-Some-too_many-clause-course g c = both-course c.args.moving c.of_pieces.result _ _ c.part_reshaping-pieces.ensures.same c.of_pieces.ensures.same refl
 
 pub returns-in-Some-too_many-clause-steps : goal.returns-in-Some-too_many-clause-steps
-returns-in-Some-too_many-clause-steps g c = both-steps 2 c.args.moving c.of_pieces.result _ _ c.take_apart-pieces.ensures.same c.of_pieces.ensures.same refl (subst (λ s. 2 ≤ s.parts.steps) c.take_apart-pieces.ensures.same c.requires.room)
+returns-in-Some-too_many-clause-steps g c =
+    both-steps 2 c.args.moving c.of_pieces.result _ _ c.part_reshaping-pieces.ensures.same c.of_pieces.ensures.same refl (subst (λ s. 2 ≤ s.parts.steps) c.part_reshaping-pieces.ensures.same c.requires.room)
 
 pub returns-in-Some-too_many-clause-left_given : goal.returns-in-Some-too_many-clause-left_given
-returns-in-Some-too_many-clause-left_given g c = both-given g.B.Bank.given c.args.moving c.of_pieces.result _ _ c.take_apart-pieces.ensures.same c.of_pieces.ensures.same refl
+returns-in-Some-too_many-clause-left_given g c =
+    both-given g.B.Bank.given c.args.moving c.of_pieces.result _ _ c.part_reshaping-pieces.ensures.same c.of_pieces.ensures.same refl
 
 pub returns-in-Some-refusal-clause-course : goal.returns-in-Some-refusal-clause-course
-returns-in-Some-refusal-clause-course g c = both-course c.args.moving c.of_pieces-in-Some-refusal.result _ _ c.take_apart-pieces.ensures.same c.of_pieces-in-Some-refusal.ensures.same refl
+returns-in-Some-refusal-clause-course g c =
+    both-course c.args.moving c.of_pieces-in-Some-refusal.result _ _ c.part_reshaping-pieces.ensures.same c.of_pieces-in-Some-refusal.ensures.same refl
 
 pub returns-in-Some-refusal-clause-steps : goal.returns-in-Some-refusal-clause-steps
-returns-in-Some-refusal-clause-steps g c = both-steps 2 c.args.moving c.of_pieces-in-Some-refusal.result _ _ c.take_apart-pieces.ensures.same c.of_pieces-in-Some-refusal.ensures.same refl (subst (λ s. 2 ≤ s.parts.steps) c.take_apart-pieces.ensures.same c.requires.room)
+returns-in-Some-refusal-clause-steps g c =
+    both-steps 2 c.args.moving c.of_pieces-in-Some-refusal.result _ _ c.part_reshaping-pieces.ensures.same c.of_pieces-in-Some-refusal.ensures.same refl (subst (λ s. 2 ≤ s.parts.steps) c.part_reshaping-pieces.ensures.same c.requires.room)
 
 pub returns-in-Some-refusal-clause-left_given : goal.returns-in-Some-refusal-clause-left_given
-returns-in-Some-refusal-clause-left_given g c = both-given g.B.Bank.given c.args.moving c.of_pieces-in-Some-refusal.result _ _ c.take_apart-pieces.ensures.same c.of_pieces-in-Some-refusal.ensures.same c.finish-done.ensures.bank.same
+returns-in-Some-refusal-clause-left_given g c =
+    both-given g.B.Bank.given c.args.moving c.of_pieces-in-Some-refusal.result _ _ c.part_reshaping-pieces.ensures.same c.of_pieces-in-Some-refusal.ensures.same c.finish-done.ensures.bank.same
 
 pub returns-in-Some-refusal-clause-refused : goal.returns-in-Some-refusal-clause-refused
 returns-in-Some-refusal-clause-refused g c =
-    behind-as c.args.who (Refused c.in-Some-refusal.refusal) c.args.moving c.of_pieces-in-Some-refusal.result _ _ c.take_apart-pieces.ensures.same c.of_pieces-in-Some-refusal.ensures.same
+    behind-as c.args.who (Refused c.in-Some-refusal.refusal) c.args.moving c.of_pieces-in-Some-refusal.result _ _ c.part_reshaping-pieces.ensures.same c.of_pieces-in-Some-refusal.ensures.same
     (record { roles = c.newly_unassigned-roles.result; spares = c.finish-done.result.spares; end = c.ops-end-2.result; is = c.append_after_losses.ensures.items })
 
 pub returns-clause-given : goal.returns-clause-given
-returns-clause-given g c = both-given g.B.Bank.given c.args.moving c.of_pieces-2.result _ _ c.take_apart-pieces.ensures.same c.of_pieces-2.ensures.same c.finish-done.ensures.bank.same
+returns-clause-given g c =
+    both-given g.B.Bank.given c.args.moving c.of_pieces-2.result _ _ c.part_reshaping-pieces.ensures.same c.of_pieces-2.ensures.same c.finish-done.ensures.bank.same
 
 pub ended_left-left-requires-clause-sound : goal.ended_left-left-requires-clause-sound
 ended_left-left-requires-clause-sound g c =
-    let p = c.take_apart-pieces.result.0 in
+    let p = c.part_reshaping-pieces.result.0 in
     let m = c.finish-done.new.members in
     let over = subst (λ (o : Option Refusal). MatchOption o (IsOver p.members.newest m.newest) (AreTooMany m)) c.in_default-refusal.is c.finish-done.ensures.answer in
-    subst (λ (n : ℕ). AreSound (shape_of m.newest) n (phases_of p.ahead)) (sym over.size) (subst (λ (s : Shape). AreSound s p.members.newest.size (phases_of p.ahead)) (sym over.shape) c.take_apart-pieces.ensures.ready.planned)
+    subst (λ (n : ℕ). AreSound (shape_of m.newest) n (phases_of p.ahead)) (sym over.size) (subst (λ (s : Shape). AreSound s p.members.newest.size (phases_of p.ahead)) (sym over.shape) c.part_reshaping-pieces.ensures.ready.planned)
+
+-- by hand: ['Moving', 'Moving', 'Still'] for of_pieces in their order
+

@@ -8,10 +8,12 @@ pub loop-slot-init : goal.loop-slot-init
 loop-slot-init c = sym (count_below-none (has_spare c.args.members.now.spares))
 
 pub overflow_add-count : goal.overflow_add-count
-overflow_add-count c = omega (arith, c.loop-slot.invariant, count_below-le c.loop-slot.slot (has_spare c.args.members.now.spares), c.loop-slot-test.true)
+overflow_add-count c =
+    omega (arith, c.loop-slot.invariant, count_below-le c.loop-slot.slot (has_spare c.args.members.now.spares), c.loop-slot-test.true)
 
 pub loop-slot-preserved : goal.loop-slot-preserved
-loop-slot-preserved c = elim c.if-is_spare.branch [
+loop-slot-preserved c =
+    elim c.if-is_spare.branch [
   | then-is_spare w ↦
       count_step c.loop-slot.slot (has_spare c.args.members.now.spares) c.is_spare.result c.loop-slot.count c.if-is_spare.count c.loop-slot.invariant c.is_spare.ensures
       (rw w.if-is_spare.true (omega (arith, w.count-is)))
@@ -21,4 +23,5 @@ loop-slot-preserved c = elim c.if-is_spare.branch [
 ]
 
 pub returns-clause-few : goal.returns-clause-few
-returns-clause-few c = omega (arith, c.loop-slot.invariant, count_below-le c.loop-slot.slot (has_spare c.args.members.now.spares), c.loop-slot.auto.slot-end)
+returns-clause-few c =
+    omega (arith, c.loop-slot.invariant, count_below-le c.loop-slot.slot (has_spare c.args.members.now.spares), c.loop-slot.auto.slot-end)
