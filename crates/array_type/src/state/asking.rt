@@ -1,6 +1,6 @@
 //! What an array tells of itself.
 
-ghost use Rattle.std.specs.Prelude.{◌≡◌, ◌^◌, ◌<◌, ◌≤◌, false, length, IfSome};
+ghost use Rattle.std.specs.Prelude.{◌≡◌, ◌^◌, ◌<◌, ◌≤◌, true, false, length, IfSome, Some};
 ghost use Rattle.sb_election.specs.sb_specs_Reading.{is_reshaping, shape_of, list_length};
 ghost use Rattle.array_parts.specs.history_Flat.{next_number, length_of, limit_of};
 ghost use Rattle.array_parts.specs.history_Legal.{told_left};
@@ -61,6 +61,17 @@ impl<B: Bank> Array<B> {
         ensures { result.now ≡ self.now.parts.members }
     {
         &self.members
+    }
+
+    /// The slot of the backup, which an array in a reshape has.
+    pub fn backup_slot(&self) -> u32
+        requires active { is_reshaping self.now.parts.members.newest ≡ true }
+        ensures { self.now.parts.backup ≡ Some result }
+    {
+        let Some(slot) = self.backup else {
+            unreachable!()
+        };
+        slot
     }
 
     /// How far the reshape has come.
