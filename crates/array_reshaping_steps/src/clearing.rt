@@ -32,9 +32,10 @@ pub fn clear<B: Bank>(moving: &mut Array<B>, who: Who) -> Result<(), Fault>
     ensures active { is_reshaping moving.new.parts.members.newest ≡ true }
     ensures given { B.given moving.new.parts.bank ≡ B.given moving.old.parts.bank }
 {
+    let backup = moving.backup_slot();
     moving.steps -= 1;
     check_going(&moving.epoch.entries, who);
-    let Err(_) = clear_window(&mut moving.bank, moving.backup, &moving.epoch.uuid) else {
+    let Err(_) = clear_window(&mut moving.bank, backup, &moving.epoch.uuid) else {
         unreachable!()
     };
     let refusal = Refusal::BackupFault;

@@ -55,6 +55,7 @@ fn enter_sure<B: Bank>(moving: &mut Array<B>, who: Who) -> Result<(), Fault>
     ensures active { is_reshaping moving.new.parts.members.newest ≡ true }
     ensures given { B.given moving.new.parts.bank ≡ B.given moving.old.parts.bank }
 {
+    let backup = moving.backup_slot();
     moving.steps -= 1;
     check_going(&moving.epoch.entries, who);
     if let Some(refusal) = too_many(&moving.members) {
@@ -70,7 +71,7 @@ fn enter_sure<B: Bank>(moving: &mut Array<B>, who: Who) -> Result<(), Fault>
     let tried = enter_next(
         &mut moving.members,
         &mut moving.bank,
-        moving.backup,
+        backup,
         &moving.epoch.uuid,
         &span,
         sectioned,

@@ -96,7 +96,7 @@ pub returns-in-Err-clause-unchanged : goal.returns-in-Err-clause-unchanged
 returns-in-Err-clause-unchanged g c =
     let a = c.moving.inside in
     (λ i. record {
-      parts = record { bank = a.bank; uuid = a.epoch.uuid; given = a.epoch.given; first = a.epoch.first; last = a.epoch.last; entries = c.make_room.ensures.items i; backup = Some a.backup; members = a.members; work = a.work; steps = a.steps };
+      parts = record { bank = a.bank; uuid = a.epoch.uuid; given = a.epoch.given; first = a.epoch.first; last = a.epoch.last; entries = c.make_room.ensures.items i; backup = a.backup; members = a.members; work = a.work; steps = a.steps };
       course = a.course;
       ahead = a.ahead;
       limit = a.limit;
