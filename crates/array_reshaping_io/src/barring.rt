@@ -17,7 +17,9 @@ ghost use Rattle.array_reshaping_steps.specs.array_reshaping_laws_Refusing.{firs
 ghost use Rattle.array_reshaping_steps.specs.array_reshaping_laws_Writing.{TouchesUnsure, IsWriteBarred, IsRefusedAlone, IsWriteEntered, IsWriteReplied};
 
 use crate::writing::unwritten_here;
-use array_reshaping_steps::{Bank, Event, Fault, Array, Who, append_entry, check_going, clear, open_span, relied_sector};
+use array_reshaping_steps::{
+    Array, Bank, Event, Fault, Who, append_entry, check_going, clear, open_span, relied_sector,
+};
 
 // Refuses a write of so many sectors, of which some lie in an unsure window: for what speaks against a write beside it, or for the backup.
 fn refuse_write<B: Bank>(moving: &mut Array<B>, who: Who, at: u64, count: u64) -> Result<(), Fault>

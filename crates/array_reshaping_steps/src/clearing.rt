@@ -12,7 +12,7 @@ ghost use Rattle.array_type.specs.array_specs_Calls.{IsCalled};
 ghost use Rattle.array_type.specs.array_reshaping_laws_Writing.{IsRefusedAlone};
 
 use array_fixed_invariant::{Fault, Refusal, Who, append_entry};
-use array_type::{Bank, Event, Array, check_going, clear_window};
+use array_type::{Array, Bank, Event, check_going, clear_window};
 
 /// Tries to make the header of an unsure window plain. It is refused `BackupFault`, and nothing is written: the backup failed when the
 /// header was written, and a slot that failed once fails again.

@@ -456,11 +456,11 @@ read_around_window-fetched-requires-clause-into g c =
 pub read_around_window-fetched-requires-clause-stands : goal.read_around_window-fetched-requires-clause-stands
 read_around_window-fetched-requires-clause-stands g c =
     record {
-  slots = (alike c.moving.invariant).kept.slots;
-  placed = (alike c.moving.invariant).kept.members_are.placed;
-  unlost = (alike c.moving.invariant).kept.members_are.unlost;
-  free = (alike c.moving.invariant).kept.members_are.free;
-}
+      slots = (alike c.moving.invariant).kept.slots;
+      placed = (alike c.moving.invariant).kept.members_are.placed;
+      unlost = (alike c.moving.invariant).kept.members_are.unlost;
+      free = (alike c.moving.invariant).kept.members_are.free;
+    }
 
 pub append_after_losses-requires-clause-room : goal.append_after_losses-requires-clause-room
 append_after_losses-requires-clause-room g c =

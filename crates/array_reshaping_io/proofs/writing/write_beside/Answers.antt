@@ -374,11 +374,11 @@ returns-clause-first g c = rw (← c.moving.view_is) (first-none _ _ c.in_defaul
 pub write_list-done-requires-clause-stands : goal.write_list-done-requires-clause-stands
 write_list-done-requires-clause-stands g c =
     record {
-  slots = (alike c.moving.invariant).kept.slots;
-  placed = (alike c.moving.invariant).kept.members_are.placed;
-  unlost = (alike c.moving.invariant).kept.members_are.unlost;
-  free = (alike c.moving.invariant).kept.members_are.free;
-}
+      slots = (alike c.moving.invariant).kept.slots;
+      placed = (alike c.moving.invariant).kept.members_are.placed;
+      unlost = (alike c.moving.invariant).kept.members_are.unlost;
+      free = (alike c.moving.invariant).kept.members_are.free;
+    }
 
 pub write_list-done-requires-clause-rows : goal.write_list-done-requires-clause-rows
 write_list-done-requires-clause-rows g c = (alike c.moving.invariant).rows_fit

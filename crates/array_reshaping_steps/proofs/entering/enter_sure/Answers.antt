@@ -254,9 +254,9 @@ returns-clause-called g c =
 pub returns-clause-caused : goal.returns-clause-caused
 returns-clause-caused g c =
     rw (← c.moving.view_is) (
-  λ refusal many. never-both c.moving.inside.members refusal c.in_default.ensures many,
-  λ refusal many. never-both c.enter_next-tried.new.members refusal (when-none _ _ c.enter_next-tried.result.refusal c.in_default-refusal.is c.enter_next-tried.ensures.refused) many,
-)
+      λ refusal many. never-both c.moving.inside.members refusal c.in_default.ensures many,
+      λ refusal many. never-both c.enter_next-tried.new.members refusal (when-none _ _ c.enter_next-tried.result.refusal c.in_default-refusal.is c.enter_next-tried.ensures.refused) many,
+    )
 
 pub returns-clause-left : goal.returns-clause-left
 returns-clause-left g c =
@@ -342,11 +342,11 @@ is_window_critical-sectioned-requires-clause-next g c = sym c.in-Some-next_windo
 pub enter_next-tried-requires-clause-stands : goal.enter_next-tried-requires-clause-stands
 enter_next-tried-requires-clause-stands g c =
     record {
-  slots = (alike c.moving.invariant).kept.slots;
-  placed = (alike c.moving.invariant).kept.members_are.placed;
-  unlost = (alike c.moving.invariant).kept.members_are.unlost;
-  free = (alike c.moving.invariant).kept.members_are.free;
-}
+      slots = (alike c.moving.invariant).kept.slots;
+      placed = (alike c.moving.invariant).kept.members_are.placed;
+      unlost = (alike c.moving.invariant).kept.members_are.unlost;
+      free = (alike c.moving.invariant).kept.members_are.free;
+    }
 
 pub enter_next-tried-requires-clause-next : goal.enter_next-tried-requires-clause-next
 enter_next-tried-requires-clause-next g c = sym c.in-Some-next_window_of.ensures.value

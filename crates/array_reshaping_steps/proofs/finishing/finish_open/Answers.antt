@@ -410,11 +410,11 @@ returns-clause-entered g c =
 pub finish_rest-rest-requires-clause-stands : goal.finish_rest-rest-requires-clause-stands
 finish_rest-rest-requires-clause-stands g c =
     record {
-  slots = (alike c.moving.invariant).kept.slots;
-  placed = (alike c.moving.invariant).kept.members_are.placed;
-  unlost = (alike c.moving.invariant).kept.members_are.unlost;
-  free = (alike c.moving.invariant).kept.members_are.free;
-}
+      slots = (alike c.moving.invariant).kept.slots;
+      placed = (alike c.moving.invariant).kept.members_are.placed;
+      unlost = (alike c.moving.invariant).kept.members_are.unlost;
+      free = (alike c.moving.invariant).kept.members_are.free;
+    }
 
 pub returns-in-Some-refusal-clause-given : goal.returns-in-Some-refusal-clause-given
 returns-in-Some-refusal-clause-given g c = c.finish_rest-rest.ensures.bank.same ∙ ap (λ p. g.B.Bank.given p.parts.bank) c.moving.view_is

@@ -290,11 +290,11 @@ returns-in-Some-clause-given g c = ap (λ p. g.B.Bank.given p.parts.bank) c.movi
 pub record-done-requires-clause-stands : goal.record-done-requires-clause-stands
 record-done-requires-clause-stands g c =
     record {
-  slots = (alike c.moving.invariant).kept.slots;
-  placed = (alike c.moving.invariant).kept.members_are.placed;
-  unlost = (alike c.moving.invariant).kept.members_are.unlost;
-  free = (alike c.moving.invariant).kept.members_are.free;
-}
+      slots = (alike c.moving.invariant).kept.slots;
+      placed = (alike c.moving.invariant).kept.members_are.placed;
+      unlost = (alike c.moving.invariant).kept.members_are.unlost;
+      free = (alike c.moving.invariant).kept.members_are.free;
+    }
 
 pub record-done-requires-clause-next : goal.record-done-requires-clause-next
 record-done-requires-clause-next g c =

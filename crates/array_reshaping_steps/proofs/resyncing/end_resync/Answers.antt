@@ -313,13 +313,13 @@ returns-clause-entered g c =
 pub flush_and_mark-settled-requires : goal.flush_and_mark-settled-requires
 flush_and_mark-settled-requires g c =
     record {
-  stands = record {
-    slots = (alike c.moving.invariant).kept.slots;
-    placed = (alike c.moving.invariant).kept.members_are.placed;
-    unlost = (alike c.moving.invariant).kept.members_are.unlost;
-    free = (alike c.moving.invariant).kept.members_are.free;
-  };
-}
+      stands = record {
+        slots = (alike c.moving.invariant).kept.slots;
+        placed = (alike c.moving.invariant).kept.members_are.placed;
+        unlost = (alike c.moving.invariant).kept.members_are.unlost;
+        free = (alike c.moving.invariant).kept.members_are.free;
+      };
+    }
 
 pub returns-in-Some-refusal-clause-given : goal.returns-in-Some-refusal-clause-given
 returns-in-Some-refusal-clause-given g c = c.flush_and_mark-settled.ensures.keeps.bank.same ∙ ap (λ p. g.B.Bank.given p.parts.bank) c.moving.view_is

@@ -331,11 +331,11 @@ returns-in-Some-clause-given g c = ap (λ p. g.B.Bank.given p.parts.bank) c.movi
 pub resync_list-mended-requires-clause-stands : goal.resync_list-mended-requires-clause-stands
 resync_list-mended-requires-clause-stands g c =
     record {
-  slots = (alike c.moving.invariant).kept.slots;
-  placed = (alike c.moving.invariant).kept.members_are.placed;
-  unlost = (alike c.moving.invariant).kept.members_are.unlost;
-  free = (alike c.moving.invariant).kept.members_are.free;
-}
+      slots = (alike c.moving.invariant).kept.slots;
+      placed = (alike c.moving.invariant).kept.members_are.placed;
+      unlost = (alike c.moving.invariant).kept.members_are.unlost;
+      free = (alike c.moving.invariant).kept.members_are.free;
+    }
 
 pub newly_unassigned-roles-requires-clause-known : goal.newly_unassigned-roles-requires-clause-known
 newly_unassigned-roles-requires-clause-known g c =

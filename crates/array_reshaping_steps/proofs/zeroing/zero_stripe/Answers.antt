@@ -281,11 +281,11 @@ stripe_to_zero-stripe-requires-clause-zeroed g c =
 pub zero-done-requires-clause-stands : goal.zero-done-requires-clause-stands
 zero-done-requires-clause-stands g c =
     record {
-  slots = (alike c.moving.invariant).kept.slots;
-  placed = (alike c.moving.invariant).kept.members_are.placed;
-  unlost = (alike c.moving.invariant).kept.members_are.unlost;
-  free = (alike c.moving.invariant).kept.members_are.free;
-}
+      slots = (alike c.moving.invariant).kept.slots;
+      placed = (alike c.moving.invariant).kept.members_are.placed;
+      unlost = (alike c.moving.invariant).kept.members_are.unlost;
+      free = (alike c.moving.invariant).kept.members_are.free;
+    }
 
 pub zero-done-requires-clause-shape : goal.zero-done-requires-clause-shape
 zero-done-requires-clause-shape g c = c.final_in-shape.ensures
