@@ -118,4 +118,7 @@ returns-clause-active g c = (ap (λ p. is_reshaping p.parts.members.newest) c.mo
 
 pub returns-clause-backup : goal.returns-clause-backup
 returns-clause-backup g c =
-    faulted c.args.moving.now.parts.backup c.backup_slot-backup.result c.backup_slot-backup.ensures (g.B.Bank.faults_of c.args.moving.now.parts.bank) (g.B.Bank.faults_of c.clear_window.new.bank) ?
+    let a = c.moving.inside in
+    let here = subst (λ p. (span : Span) × (p.course.window ≡ Unsure span)) (sym c.moving.view_is) c.requires.unsure in
+    let failed = (c.clear_window.ensures.dead (of-slot a.backup c.backup_slot-backup.result (ap (λ p. p.parts.backup) c.moving.view_is ∙ c.backup_slot-backup.ensures) (λ (slot : ℕ). 0 < g.B.Bank.faults_of a.bank slot) ((c.moving.invariant.moves (ap (λ p. is_reshaping p.parts.members.newest) c.moving.view_is ∙ c.requires.active)).1.dead here.0 here.1))).0 in
+    rw (← c.moving.view_is) (faulted a.backup c.backup_slot-backup.result (ap (λ p. p.parts.backup) c.moving.view_is ∙ c.backup_slot-backup.ensures) (g.B.Bank.faults_of a.bank) (g.B.Bank.faults_of c.clear_window.new.bank) (c.clear_window.ensures.cause.failed failed))
