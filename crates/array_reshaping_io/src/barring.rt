@@ -72,6 +72,7 @@ pub(crate) fn bar_write<B: Bank>(
     requires some { 0 < length from.now / 512 }
     requires short { at + length from.now / 512 < 2 ^ 63 }
     requires touches { TouchesUnsure moving.old.course.window at (at + length from.now / 512) }
+    requires active { is_reshaping moving.old.parts.members.newest ≡ true }
     ensures refused { IsErr result }
     ensures replied { IsWriteReplied (list_length moving.old.parts.members.newest) at (sectors_of from.now) who moving.old.parts.entries moving.new.parts.entries result }
     ensures entered { IsWriteEntered moving.old.course.window at (at + length from.now / 512) (sectors_of from.now) who moving.old.parts.entries moving.new.parts.entries (left_in moving.new.parts.work moving.new.parts.members moving.new.course moving.new.ahead) result }
@@ -83,6 +84,7 @@ pub(crate) fn bar_write<B: Bank>(
     ensures failed { HaveRolesFailed moving.old.parts.members moving.new.parts.members (B.faults_of moving.old.parts.bank) (B.faults_of moving.new.parts.bank) }
     ensures backup { result ≡ Err (IsRefusedWith BackupFault) → IfSome moving.old.parts.backup (λ slot. IsFaulted slot (B.faults_of moving.old.parts.bank) (B.faults_of moving.new.parts.bank)) }
     ensures course { moving.new.course ≡ moving.old.course }
+    ensures active { is_reshaping moving.new.parts.members.newest ≡ true }
     ensures given { B.given moving.new.parts.bank ≡ B.given moving.old.parts.bank }
 {
     match moving.epoch.entries.make_room(101) {

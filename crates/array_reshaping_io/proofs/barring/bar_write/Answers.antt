@@ -114,3 +114,9 @@ returns-in-Err-clause-entered g c = c.make_room.ensures.items ∙ ap (λ p. p.pa
 pub returns-in-Err-clause-failed : goal.returns-in-Err-clause-failed
 returns-in-Err-clause-failed g c =
     subst (λ p. HaveRolesFailed p.parts.members c.moving.inside.members (g.B.Bank.faults_of p.parts.bank) (g.B.Bank.faults_of c.moving.inside.bank)) c.moving.view_is (λ role slot held. inl held)
+
+pub returns-in-Err-clause-active : goal.returns-in-Err-clause-active
+returns-in-Err-clause-active g c = ap (λ p. is_reshaping p.parts.members.newest) c.moving.view_is ∙ c.requires.active
+
+pub returns-clause-active : goal.returns-clause-active
+returns-clause-active g c = c.refuse_write.ensures.active

@@ -337,4 +337,4 @@ pub returns-clause-active : goal.returns-clause-active
 returns-clause-active g c = c.write_beside-2.ensures.active
 
 pub returns-in-Err-clause-active : goal.returns-in-Err-clause-active
-returns-in-Err-clause-active g c = (ap (λ p. is_reshaping p.parts.members.newest) c.moving.view_is ∙ c.requires.active)
+returns-in-Err-clause-active g c = c.requires.active
