@@ -120,3 +120,6 @@ returns-in-Err-clause-active g c = ap (λ p. is_reshaping p.parts.members.newest
 
 pub returns-clause-active : goal.returns-clause-active
 returns-clause-active g c = c.refuse_write.ensures.active
+
+pub refuse_write-requires-clause-active : goal.refuse_write-requires-clause-active
+refuse_write-requires-clause-active g c = ap (λ p. is_reshaping p.parts.members.newest) c.moving.view_is ∙ c.requires.active

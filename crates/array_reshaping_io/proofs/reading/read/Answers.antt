@@ -454,3 +454,6 @@ returns-clause-active g c = c.read_some.ensures.active
 
 pub returns-in-Err-clause-active : goal.returns-in-Err-clause-active
 returns-in-Err-clause-active g c = c.requires.active
+
+pub read_some-requires-clause-active : goal.read_some-requires-clause-active
+read_some-requires-clause-active g c = ap (λ p. is_reshaping p.parts.members.newest) c.moving.view_is ∙ c.requires.active
