@@ -1,4 +1,4 @@
-use Rattle.std.proofs.Common.{◌≡◌, ◌+◌, ◌/◌, List, [], length, refl, sym, ◌∙◌, ap, subst, arith, append-nil, inl, Some}
+use Rattle.std.proofs.Common.{◌≡◌, ◌+◌, ◌/◌, List, [], length, refl, sym, ◌∙◌, ap, subst, arith, append-nil, inl}
 use Rattle.std.proofs.lemmas.List.Elements.{All-nil}
 use Rattle.array_reshaping_steps.specs.raid_types_Sectors.{sectors_of}
 use Rattle.array_reshaping_steps.proofs.raid_types_SectorLaws.{length-sectors_of}

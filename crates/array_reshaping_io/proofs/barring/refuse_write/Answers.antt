@@ -1,4 +1,4 @@
-use Rattle.std.proofs.Common.{inr, ◌≡◌, ◌≤◌, ◌+◌, ℕ, Option, [], ◌∷◌, Some, refl, sym, subst, arith, ap, ◌∙◌}
+use Rattle.std.proofs.Common.{inr, ◌≡◌, ◌≤◌, ◌+◌, ℕ, Option, [], ◌∷◌, refl, sym, subst, arith, ap, ◌∙◌}
 use Rattle.std.specs.Prelude.{Result, Err}
 use Rattle.array_reshaping_steps.specs.raid_types_the_Fault.{Fault as AnyFault}
 use Rattle.array_reshaping_steps.specs.raid_types_the_Fault_TheVariants.{Refused as IsRefusedWith}

@@ -1,4 +1,4 @@
-use Rattle.std.proofs.Common.{inl, ◌≤◌, ◌+◌, ℕ, Option, [], ◌∷◌, Some, refl, sym, subst, arith, ◌∙◌, ap}
+use Rattle.std.proofs.Common.{inl, ◌≤◌, ◌+◌, ℕ, Option, [], ◌∷◌, refl, sym, subst, arith, ◌∙◌, ap}
 use Rattle.array_reshaping_steps.specs.raid_types_the_Refusal.{Refusal}
 use Rattle.array_reshaping_steps.specs.raid_types_the_Span.{Span}
 use Rattle.array_reshaping_steps.specs.sb_specs_Reading.{list_length, is_reshaping}

@@ -1,4 +1,4 @@
-use Rattle.std.proofs.Common.{inl, ◌≡◌, ◌≤◌, ◌<◌, ◌+◌, ◌/◌, ℕ, false, List, [], ◌∷◌, ◌++◌, length, Some, refl, sym, ◌∙◌, ap, subst, arith}
+use Rattle.std.proofs.Common.{inl, ◌≡◌, ◌≤◌, ◌<◌, ◌+◌, ◌/◌, ℕ, false, List, [], ◌∷◌, ◌++◌, length, refl, sym, ◌∙◌, ap, subst, arith}
 use Rattle.array_reshaping_steps.specs.raid_types_Sectors.{Sector, sectors_of}
 use Rattle.array_reshaping_steps.specs.raid_types_the_Refusal.{Refusal}
 use Rattle.array_reshaping_steps.specs.sb_specs_Reading.{list_length, is_reshaping}

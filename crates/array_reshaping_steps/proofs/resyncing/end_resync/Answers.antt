@@ -1,4 +1,4 @@
-use Rattle.std.proofs.Common.{◌≤◌, [], ◌∷◌, ◌++◌, false, Some, refl, sym, ◌∙◌, subst, arith, ap, None}
+use Rattle.std.proofs.Common.{◌≤◌, [], ◌∷◌, ◌++◌, false, refl, sym, ◌∙◌, subst, arith, ap, None}
 use Rattle.array_fixed_invariant.specs.sb_specs_Reading.{list_length, is_reshaping}
 use Rattle.array_fixed_invariant.proofs.sb_specs_ValidFields.{few-roles}
 use Rattle.array_fixed_invariant.specs.history_the_Event_TheVariants.{Refused, Step}
