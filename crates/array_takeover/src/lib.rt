@@ -4,6 +4,5 @@
 mod choosing;
 mod taking;
 
-pub use array_calls::add;
 pub use array_fixed_io::{Epoch, Event, Members, PhasesLeft, Pieces, read, write};
 pub use taking::take_over;
