@@ -344,13 +344,13 @@ returns-clause-given g c = c.flush_and_mark-settled.ensures.keeps.bank.same ∙ 
 pub flush_and_mark-settled-requires : goal.flush_and_mark-settled-requires
 flush_and_mark-settled-requires g c =
     record {
-  stands = record {
-    slots = (alike c.still.invariant).kept.slots;
-    placed = (alike c.still.invariant).kept.members_are.placed;
-    unlost = (alike c.still.invariant).kept.members_are.unlost;
-    free = (alike c.still.invariant).kept.members_are.free;
-  };
-}
+      stands = record {
+        slots = (alike c.still.invariant).kept.slots;
+        placed = (alike c.still.invariant).kept.members_are.placed;
+        unlost = (alike c.still.invariant).kept.members_are.unlost;
+        free = (alike c.still.invariant).kept.members_are.free;
+      };
+    }
 
 pub returns-in-Some-clause-still : goal.returns-in-Some-clause-still
 returns-in-Some-clause-still g c = c.refuse_step.ensures.still
