@@ -1,4 +1,5 @@
 pub mod Answered
+pub mod Both
 pub mod Checked
 pub mod Chosen
 pub mod Closed

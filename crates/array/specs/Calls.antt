@@ -6,7 +6,6 @@ use Rattle.array_grow.specs.raid_types_the_Refusal.{Refusal}
 use Rattle.array_grow.specs.raid_types_the_Refusal_TheVariants.{Nothing as IsDone, BackupFault}
 use Rattle.array_grow.specs.raid_types_the_Phase.{Phase}
 use Rattle.array_grow.specs.raid_types_the_Phase_TheVariants.{Reshape, UpTo6, DownTo5}
-use Rattle.array_grow.specs.raid_types_the_Status.{Status}
 use Rattle.array_takeover.specs.sb_specs_the_Members.{Members}
 use Rattle.array_takeover.specs.sb_specs_Reading.{is_reshaping, shape_of}
 use Rattle.array_takeover.specs.history_World.{World}
@@ -20,9 +19,8 @@ use Rattle.array_grow.specs.array_members_the_Work.{Work}
 use Rattle.array_takeover.specs.reshape_request_Left.{phases_of}
 use Rattle.array_grow.specs.history_invariant_Safe.{IsFilledRight}
 use Rattle.array_grow.specs.history_invariant_laws_Reliable.{IsReliable}
-use Rattle.array_grow.specs.array_specs_Parts.{RunningParts, left_in, still_left}
-use Rattle.array_grow.specs.array_specs_Calls.{IsStatusFor}
-use Rattle.array_grow.specs.array_specs_Still.{IsStillStatus}
+use Rattle.array_grow.specs.array_specs_Parts.{RunningParts}
+pub use Rattle.array_type.specs.One.{running_left, IsShownAs}
 use Rattle.array_grow.specs.reshape_progress_Course.{hidden_in}
 use Rattle.array_grow.specs.array_reshaping_state_Due.{due_of}
 use Rattle.array_grow.specs.array_reshaping_state_the_Due_TheVariants.{Finish as EndsReshape}
@@ -34,16 +32,6 @@ use Rattle.array_grow.specs.array_transition_Begun.{IsUnbegun}
 use Rattle.array_takeover.specs.TakenOver.{IsTakeoverNext, IsUntaken}
 use Rattle.array.specs.declared.state.choosing.Next.{Next}
 use Rattle.array.specs.declared.state.choosing.Next.TheVariants.{Nothing, Own, Begin, Take, Move, Finish}
-
--- the steps that are left: of the reshape that is active, or else of what is under way on members that have one shape; of a pending resync, and of the phases ahead
-abbrev pub running_left : {B : Type 0} → RunningParts B → ℕ
-running_left array =
-    if is_reshaping array.parts.members.newest then left_in array.parts.work array.parts.members array.course array.ahead
-    else still_left array.parts.work array.parts.members array.ahead
-
--- this status tells the array as it is
-abbrev pub IsShownAs : {B : Type 0} → RunningParts B → Status → Type 0
-IsShownAs array status = MatchBool (is_reshaping array.parts.members.newest) (IsStatusFor array status) (IsStillStatus array status)
 
 -- What is asked of the history, where a read is to be right by it: in a reshape that it can be relied on behind the read, or else that what was filled in is right.
 abbrev pub IsReadRight : {B : Type 0} → RunningParts B → World → World → List Entry → Type 0

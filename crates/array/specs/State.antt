@@ -20,14 +20,7 @@ use Rattle.array_grow.specs.array_specs_Parts.{RunningParts}
 use Rattle.array_grow.specs.Stored.{IsStoredBy}
 use Rattle.array_grow.specs.array_specs_Calls.{moving_world}
 use Rattle.array_grow.specs.array_specs_Plans.{ArePlansKept, KeepsShape}
-use Rattle.array.specs.Calls.{running_left}
-use Rattle.array.specs.declared.state.State.{State}
-use Rattle.array.specs.declared.state.State.TheVariants.{Still, Moving}
-
--- what contracts see of it
-abbrev pub parts_in : {B : Type 0} → State B → RunningParts B
-parts_in (Still array) = array
-parts_in (Moving array) = array
+use Rattle.array_type.specs.One.{KeepsBy, running_left}
 
 -- its superblocks tell no reshape, and there is no course of one
 pub record IsStillNow {B : Type 0} (array : RunningParts B) : Type 0 where
@@ -106,7 +99,8 @@ pub record IsInReshape {B : Type 0} (tells : Type 0) (given : Given) (tape : Lis
   pub turned : tells → KeepsShape (moving_world given tape array) array.parts.entries → ⊥
   pub plans : ArePlansKept tells (moving_world given tape array) array
 
--- it is in the state that its superblocks tell
-abbrev pub IsAsTold : {B : Type 0} → Type 0 → (B → Given) → (B → List Operation) → ℕ → State B → Type 0
-IsAsTold tells given tape window (Still array) = IsAtRest tells (given array.parts.bank) (tape array.parts.bank) window array
-IsAsTold tells given tape window (Moving array) = IsInReshape tells (given array.parts.bank) (tape array.parts.bank) array
+-- it keeps the one or the other, as its superblocks tell
+abbrev pub IsAsTold : {B : Type 0} → Type 0 → (B → Given) → (B → List Operation) → ℕ → RunningParts B → Type 0
+IsAsTold tells given tape window array =
+    KeepsBy (is_reshaping array.parts.members.newest) (IsInReshape tells (given array.parts.bank) (tape array.parts.bank) array)
+    (IsAtRest tells (given array.parts.bank) (tape array.parts.bank) window array)

@@ -3,13 +3,12 @@
 
 mod state;
 
+pub use array_calls::{add, examine, fail, flush, halt, status, stop};
 pub use array_grow::{
-    Bank, Course, Fault, Moving, NoMemory, Opened, PlannedGrow, Refusal, Room, Shape, Still, Who,
-    append_absent, final_in, found_numbers, list_sectors, plan_grow, refuse_grow, refuse_limit,
-    room_for, shape_in, zeros,
+    Bank, Course, Fault, NoMemory, PlannedGrow, Refusal, Room, Shape, Who, append_absent, final_in,
+    found_numbers, list_sectors, plan_grow, refuse_grow, refuse_limit, room_for, shape_in, zeros,
 };
-pub use array_reshaping_io::{add as add_moving, read as read_moving, write as write_moving};
-pub use array_takeover::{
-    Event, Pieces, add as add_still, read as read_still, write as write_still,
-};
-pub use state::{Next, Running, State, check_moving, check_still};
+pub use array_reshaping_io::{read as read_in_reshape, write as write_in_reshape};
+pub use array_takeover::{Event, Pieces, read as read_at_rest, write as write_at_rest};
+pub use array_type::Array;
+pub use state::{Next, Running, check_array};

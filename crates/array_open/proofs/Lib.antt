@@ -24,6 +24,7 @@ pub mod Handed
 pub use Rattle.array_steps.proofs.array_fixed_laws_PlansKept
 pub use Rattle.array_steps.proofs.array_Closed
 pub use Rattle.array_steps.proofs.array_Kept
+pub use Rattle.array_steps.proofs.array_Both
 pub use Rattle.array_steps.proofs.array_members_MovedLaws
 pub use Rattle.array_steps.proofs.array_grow_Idle
 pub use Rattle.array_steps.proofs.array_grow_PlanLaws

@@ -16,7 +16,7 @@ ghost use Rattle.array_open.specs.Adopted.{moving_work, IsMovingAdopted, IsNotAd
 use array_create_assemble::{Bank, Epoch, Fault, Members, Refusal, Work, is_clean, unit};
 use array_reshaping_open_laws::{PhasesLeft, Window, find_window, lose_recovering};
 use array_steps::{
-    Course, Moving, Pieces, Room, append_absent, final_in, found_numbers, list_sectors, room_for,
+    Array, Course, Pieces, Room, append_absent, final_in, found_numbers, list_sectors, room_for,
     shape_in, zeros,
 };
 use std::alloc::Global;
@@ -60,7 +60,7 @@ fn begin_moving<B: Bank>(
     far: Room,
     found: Window,
     window: Vec<u8>,
-) -> Moving<B>
+) -> Array<B>
     requires opened { IsOpenedMoving B.tells (B.given bank) (B.tape bank) given backup members found (bytes_in found window.items) }
     requires sure { unsure_in found ≡ None }
     requires first { B.tells → first ≡ length (B.tape bank) }
@@ -74,6 +74,7 @@ fn begin_moving<B: Bank>(
     requires wide { 512 * reach_of members.newest ≤ length window.items }
     ensures adopted { IsMovingAdopted B.tells (B.given bank) (B.tape bank) given backup members result }
     ensures bank { result.parts.bank ≡ bank }
+    ensures active { is_reshaping result.parts.members.newest ≡ true }
 {
     let mut members = members;
     let _ = lose_recovering(&mut members);
@@ -110,7 +111,7 @@ fn begin_moving<B: Bank>(
         window: found,
         zeroed: 0,
     };
-    Moving::of_pieces(pieces, backup, course, window)
+    Array::of_reshaping(pieces, backup, course, window)
 }
 
 /// Takes an array over whose superblocks, found in the slots of the bank, tell an active reshape with its backup in the slot `backup`.
@@ -126,11 +127,12 @@ pub fn adopt_reshaping<B: Bank>(
     backup: u32,
     members: Members,
     given: u32,
-) -> Result<Moving<B>, (B, Fault)>
+) -> Result<Array<B>, (B, Fault)>
     requires opened { AreOpenedMoving B.tells (B.given bank) (B.tape bank) given backup members }
     requires slot { backup < (B.given bank).slots }
     requires failed { (slot : ℕ) → slot < (B.given bank).slots → has_slot given slot ≡ false → 0 < B.faults_of bank slot }
     ensures adopted { IfOk result (λ made. IsMovingAdopted B.tells (B.given bank) (B.tape bank) given backup members made) }
+    ensures active { IfOk result (λ made. is_reshaping made.parts.members.newest ≡ true) }
     ensures refused { IfErr result (λ e. IsNotAdopted backup bank e.0 (B.faults_of bank) (B.faults_of e.0) e.1) }
     ensures tape { IfOk result (λ made. B.tells → B.tape made.parts.bank ≡ B.tape bank) }
     ensures left_tape { IfErr result (λ e. B.tells → B.tape e.0 ≡ B.tape bank) }
@@ -158,8 +160,8 @@ pub fn adopt_reshaping<B: Bank>(
         Err(_) => return Err((bank, Fault::Refused(Refusal::BackupAbsent))),
     };
     let first = bank.ops();
-    let moving = begin_moving(
+    let array = begin_moving(
         alloc, bank, first, backup, members, given, near, far, found, window,
     );
-    Ok(moving)
+    Ok(array)
 }

@@ -25,7 +25,7 @@ ghost use Rattle.array_steps.specs.array_specs_Still.{AreLeftSettled};
 ghost use Rattle.array_steps.specs.array_fixed_laws_Plain.{AreToldPlainly, IsPlainEpoch};
 
 use array_create_assemble::{Bank, Epoch, Fault, Who};
-use array_steps::{Running, State, check_moving, check_still};
+use array_steps::{Running, check_array};
 
 /// Ends the epoch, and gives the bank back with what happened. It takes no memory and makes no device call.
 pub fn halt<B: Bank>(array: Running<B>, who: Who) -> (B, Epoch)
@@ -50,13 +50,10 @@ pub fn halt<B: Bank>(array: Running<B>, who: Who) -> (B, Epoch)
 {
     let Running {
         alloc: _,
-        state,
+        array,
         window: _,
     } = array;
-    match state {
-        State::Still(still) => still.halt(who),
-        State::Moving(moving) => moving.halt(who),
-    }
+    array_steps::halt(array, who)
 }
 
 /// Flushes the members, marks the array clean, unless a resync is pending, and ends the epoch, whose bank it gives back with what
@@ -91,37 +88,19 @@ pub fn stop<B: Bank>(array: Running<B>, who: Who) -> Result<(B, Epoch), (Running
 {
     let Running {
         alloc,
-        state,
+        array,
         window,
     } = array;
-    match state {
-        State::Still(still) => match still.stop(who) {
-            Ok(ended) => Ok(ended),
-            Err((still, fault)) => {
-                let mut still = still;
-                check_still(&mut still);
-                let state = State::Still(still);
-                let running = Running {
-                    alloc,
-                    state,
-                    window,
-                };
-                Err((running, fault))
-            }
-        },
-        State::Moving(moving) => match moving.stop(who) {
-            Ok(ended) => Ok(ended),
-            Err((moving, fault)) => {
-                let mut moving = moving;
-                check_moving(&mut moving);
-                let state = State::Moving(moving);
-                let running = Running {
-                    alloc,
-                    state,
-                    window,
-                };
-                Err((running, fault))
-            }
-        },
+    match array_steps::stop(array, who) {
+        Ok(ended) => Ok(ended),
+        Err((array, fault)) => {
+            check_array(&array);
+            let running = Running {
+                alloc,
+                array,
+                window,
+            };
+            Err((running, fault))
+        }
     }
 }

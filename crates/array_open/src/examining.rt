@@ -6,7 +6,7 @@ ghost use Rattle.array_create_assemble.specs.bank_Tape.{contents};
 ghost use Rattle.array_create_assemble.specs.sb_specs_Election.{IsCausedBy};
 
 use array_create_assemble::{Bank, BankFault, Sb};
-use array_steps::{Running, State, check_moving, check_still};
+use array_steps::{Running, check_array};
 
 /// What the superblock of a slot says as it is stored now, whichever array's it is, and `None` where the slot has no valid
 /// one. It writes nothing and enters nothing. Where the slot fails it is lost by the next call that uses it.
@@ -19,16 +19,7 @@ pub fn examine<B: Bank>(array: &mut Running<B>, slot: u32) -> Result<Option<Sb>,
     ensures given { B.given array.new.parts.bank ≡ B.given array.old.parts.bank }
     ensures else_same { array.new ≡ record array.old { parts = record array.old.parts { bank = array.new.parts.bank } } }
 {
-    match &mut array.state {
-        State::Still(still) => {
-            let found = still.examine(slot);
-            check_still(still);
-            found
-        }
-        State::Moving(moving) => {
-            let found = moving.examine(slot);
-            check_moving(moving);
-            found
-        }
-    }
+    let found = array_steps::examine(&mut array.array, slot);
+    check_array(&array.array);
+    found
 }

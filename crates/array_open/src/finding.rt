@@ -18,7 +18,8 @@ ghost use Rattle.array_open.specs.Found.{IsRunningFound};
 
 use crate::adopting::adopt_reshaping;
 use array_create_assemble::{Bank, Fault, Opened, find, is_reshaping};
-use array_steps::{Opened as OpenedStill, Running, Still};
+use array_fixed_calls::{Opened as OpenedAtRest, adopt};
+use array_steps::Running;
 use std::alloc::Global;
 
 // The array runs that has no active reshape, and whose backup holds no role and is no spare.
@@ -38,13 +39,13 @@ pub(crate) fn run_still<B: Bank>(
     ensures short { IfErr result (λ e. e.1 ≡ WantsMemory) }
 {
     let Opened { members, given } = found;
-    let opened = OpenedStill {
+    let opened = OpenedAtRest {
         backup,
         members,
         given,
     };
-    match Still::adopt(alloc, bank, opened) {
-        Ok(still) => Ok(Running::of_still(alloc, still)),
+    match adopt(alloc, bank, opened) {
+        Ok(array) => Ok(Running::at_rest(alloc, array)),
         Err((bank, _)) => Err((bank, Fault::NoMemory)),
     }
 }
@@ -70,7 +71,7 @@ fn run_moving<B: Bank>(
 {
     let Opened { members, given } = found;
     match adopt_reshaping(alloc, bank, backup, members, given) {
-        Ok(moving) => Ok(Running::of_moving(alloc, moving)),
+        Ok(array) => Ok(Running::in_reshape(alloc, array)),
         Err(refused) => Err(refused),
     }
 }

@@ -12,7 +12,7 @@ ghost use Rattle.array_open.specs.array_call_specs_Calls.{IsAddedFor, IsAddedAs,
 ghost use Rattle.array_open.specs.array_specs_Adding.{IsAddCalled};
 
 use array_call_specs::{Fault, Who};
-use array_open::{Running, State, check_moving, check_still};
+use array_open::{Running, check_array};
 use bank::Bank;
 
 /// Makes a slot a spare, which in a reshape gets no role until that is over: flushes it, and writes its superblock, with the
@@ -36,16 +36,7 @@ pub fn add<B: Bank>(array: &mut Running<B>, who: Who, slot: u32) -> Result<(), F
     ensures course { array.new.course ≡ array.old.course }
     ensures given { B.given array.new.parts.bank ≡ B.given array.old.parts.bank }
 {
-    match &mut array.state {
-        State::Still(still) => {
-            let done = array_open::add_still(still, who, slot);
-            check_still(still);
-            done
-        }
-        State::Moving(moving) => {
-            let done = array_open::add_moving(moving, who, slot);
-            check_moving(moving);
-            done
-        }
-    }
+    let done = array_open::add(&mut array.array, who, slot);
+    check_array(&array.array);
+    done
 }

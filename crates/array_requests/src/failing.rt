@@ -11,7 +11,7 @@ ghost use Rattle.array_open.specs.array_call_specs_Calls.{IsAnswered, IsFailedFo
 ghost use Rattle.array_open.specs.array_specs_Calls.{IsCalled};
 
 use array_call_specs::{Fault, Who};
-use array_open::{Running, State, check_moving, check_still};
+use array_open::{Running, check_array};
 use bank::Bank;
 
 /// Takes the slot of this role out of the array, and names the role missing in the superblocks of the others. Refusals:
@@ -29,16 +29,7 @@ pub fn fail<B: Bank>(array: &mut Running<B>, who: Who, role: u32) -> Result<(), 
     ensures course { array.new.course ≡ array.old.course }
     ensures given { B.given array.new.parts.bank ≡ B.given array.old.parts.bank }
 {
-    match &mut array.state {
-        State::Still(still) => {
-            let done = still.fail(who, role);
-            check_still(still);
-            done
-        }
-        State::Moving(moving) => {
-            let done = moving.fail(who, role);
-            check_moving(moving);
-            done
-        }
-    }
+    let done = array_open::fail(&mut array.array, who, role);
+    check_array(&array.array);
+    done
 }

@@ -1,9 +1,9 @@
 //! How much of a running array's list can be read and written.
 
-ghost use Rattle.std.specs.Prelude.{◌≡◌, ◌≢◌, Some, length, IsErr};
+ghost use Rattle.std.specs.Prelude.{◌≡◌, ◌≢◌, true, Some, length, IsErr};
 ghost use Rattle.array_call_specs.specs.raid_types_the_Refusal_TheVariants.{Busy};
 ghost use Rattle.array_call_specs.specs.raid_types_the_BusyKind_TheVariants.{Reshape};
-ghost use Rattle.array_open.specs.sb_specs_Reading.{list_length};
+ghost use Rattle.array_open.specs.sb_specs_Reading.{is_reshaping, list_length};
 ghost use Rattle.history_append.specs.history_Flat.{next_number};
 ghost use Rattle.history_append.specs.history_the_Event_TheVariants.{Visible, Refused};
 ghost use Rattle.history_append.specs.history_the_Request_TheVariants.{Visible as AsksVisible};
@@ -18,26 +18,28 @@ ghost use Rattle.array_open.specs.array_reply_specs_Limits.{limit_refusal};
 ghost use Rattle.array_open.specs.array_grow_Planned.{IsJudged, IsReplied};
 
 use array_call_specs::{Fault, Who};
-use array_open::{Moving, Running, State, check_moving, check_still, refuse_limit};
+use array_open::{Array, Running, check_array, limit_at_rest, refuse_limit};
 use bank::Bank;
 use core::mem::replace_with;
 
 // Refuses the limit of a caller, in a reshape.
-fn refuse_moving<B: Bank>(
-    moving: Moving<B>,
+fn refuse_in_reshape<B: Bank>(
+    array: Array<B>,
     asked: (Who, Option<u64>),
-) -> (Moving<B>, Result<u64, Fault>)
-    requires next { asked.0.number ≡ next_number asked.0.caller moving.parts.entries }
+) -> (Array<B>, Result<u64, Fault>)
+    requires next { asked.0.number ≡ next_number asked.0.caller array.parts.entries }
     requires caller { asked.0.caller ≢ 254 }
-    ensures answered { IsReplied B.tells (moving_world (B.given moving.parts.bank) (B.tape moving.parts.bank) moving) (length (phases_of moving.ahead)) moving.parts.members (AsksVisible asked.1) asked.0 moving.parts.entries result.0.parts.entries
+    requires active { is_reshaping array.parts.members.newest ≡ true }
+    ensures answered { IsReplied B.tells (moving_world (B.given array.parts.bank) (B.tape array.parts.bank) array) (length (phases_of array.ahead)) array.parts.members (AsksVisible asked.1) asked.0 array.parts.entries result.0.parts.entries
         (Refused (Busy Reshape)) result.1 }
     ensures refused { IsErr result.1 }
     ensures judged { IsJudged (Some (Busy Reshape)) result.1 }
-    ensures unchanged { OnNoMemory result.1 (result.0 ≡ moving) }
-    ensures limited { IsLimitedAs moving.limit moving result.0 }
+    ensures unchanged { OnNoMemory result.1 (result.0 ≡ array) }
+    ensures limited { IsLimitedAs array.limit array result.0 }
     ensures ended { IsEndOf B.tells result.0.parts.first result.0.parts.entries (B.tape result.0.parts.bank) }
+    ensures active { is_reshaping result.0.parts.members.newest ≡ true }
 {
-    refuse_limit(moving, asked)
+    refuse_limit(array, asked)
 }
 
 /// Limits how many sectors of the list can be read and written, or takes the limit away; the answer is how many can be then. It makes
@@ -59,16 +61,12 @@ pub fn set_visible<B: Bank>(
     ensures ended { IsEndOf B.tells array.new.parts.first array.new.parts.entries (B.tape array.new.parts.bank) }
     ensures went { HasRunOn B.tells B.given B.tape B.faults_of array.old array.new }
 {
-    match &mut array.state {
-        State::Still(still) => {
-            let done = still.set_visible(who, limit);
-            check_still(still);
-            done
-        }
-        State::Moving(moving) => {
-            let done = replace_with(moving, (who, limit), refuse_moving);
-            check_moving(moving);
-            done
-        }
+    if array.array.is_reshaping() {
+        let done = replace_with(&mut array.array, (who, limit), refuse_in_reshape);
+        check_array(&array.array);
+        return done;
     }
+    let done = limit_at_rest(&mut array.array, who, limit);
+    check_array(&array.array);
+    done
 }

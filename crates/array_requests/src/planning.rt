@@ -1,10 +1,10 @@
 //! Requests to grow a running array.
 
-ghost use Rattle.std.specs.Prelude.{◌≡◌, ◌≢◌, ◌*◌, ◌≤◌, length, OnOk, OnErr, IsErr, IfOk};
+ghost use Rattle.std.specs.Prelude.{◌≡◌, ◌≢◌, ◌*◌, ◌≤◌, true, false, length, OnOk, OnErr, IsErr, IfOk};
 ghost use Rattle.array_call_specs.specs.raid_types_the_Refusal_TheVariants.{Busy};
 ghost use Rattle.array_call_specs.specs.raid_types_the_BusyKind_TheVariants.{Reshape};
 ghost use Rattle.history_append.specs.reshape_plan_Plans.{largest_window};
-ghost use Rattle.array_open.specs.sb_specs_Reading.{shape_of, list_length};
+ghost use Rattle.array_open.specs.sb_specs_Reading.{is_reshaping, shape_of, list_length};
 ghost use Rattle.history_append.specs.history_Flat.{next_number, visible_of};
 ghost use Rattle.history_append.specs.history_the_Event_TheVariants.{Planned, Refused};
 ghost use Rattle.array_open.specs.array_call_specs_Calls.{OnNoMemory, IsEndOf};
@@ -18,55 +18,57 @@ ghost use Rattle.array_open.specs.array_grow_Replied.{IsGrowReplied};
 ghost use Rattle.array_open.specs.array_Calls.{running_left};
 
 use array_call_specs::{Fault, Who};
-use array_open::{
-    Moving, PlannedGrow, Running, State, Still, check_moving, check_still, refuse_grow,
-};
+use array_open::{Array, PlannedGrow, Running, check_array, refuse_grow};
 use bank::{Bank, Wish};
 use core::mem::replace_with;
 
 // The wish of a caller, of an array without a reshape.
-fn plan_still<B: Bank>(
-    still: Still<B>,
+fn plan_at_rest<B: Bank>(
+    array: Array<B>,
     asked: (Who, Wish),
-) -> (Still<B>, Result<PlannedGrow, Fault>)
-    requires next { asked.0.number ≡ next_number asked.0.caller still.parts.entries }
+) -> (Array<B>, Result<PlannedGrow, Fault>)
+    requires next { asked.0.number ≡ next_number asked.0.caller array.parts.entries }
     requires caller { asked.0.caller ≢ 254 }
-    ensures answered { IsGrowAnswered B.tells (moving_world (B.given still.parts.bank) (B.tape still.parts.bank) still) (asked_in (B.given still.parts.bank) still) asked.1 asked.0 still.parts.entries result.0.parts.entries
+    requires still { is_reshaping array.parts.members.newest ≡ false }
+    ensures answered { IsGrowAnswered B.tells (moving_world (B.given array.parts.bank) (B.tape array.parts.bank) array) (asked_in (B.given array.parts.bank) array) asked.1 asked.0 array.parts.entries result.0.parts.entries
         (Planned (still_left result.0.parts.work result.0.parts.members result.0.ahead) asked.1) result.1 }
-    ensures visible { visible_of (list_length still.parts.members.newest) still.parts.entries ≡ visible_in still }
-    ensures judged { IsGrowJudged (asked_in (B.given still.parts.bank) still) asked.1 result.1 }
-    ensures unchanged { OnNoMemory result.1 (result.0 ≡ still) }
-    ensures as_before { IsAsBefore still result.0 }
-    ensures limit { result.0.limit ≡ still.limit }
+    ensures visible { visible_of (list_length array.parts.members.newest) array.parts.entries ≡ visible_in array }
+    ensures judged { IsGrowJudged (asked_in (B.given array.parts.bank) array) asked.1 result.1 }
+    ensures unchanged { OnNoMemory result.1 (result.0 ≡ array) }
+    ensures as_before { IsAsBefore array result.0 }
+    ensures limit { result.0.limit ≡ array.limit }
     ensures ended { IsEndOf B.tells result.0.parts.first result.0.parts.entries (B.tape result.0.parts.bank) }
-    ensures refused { OnErr result.1 (result.0.ahead ≡ still.ahead) }
+    ensures refused { OnErr result.1 (result.0.ahead ≡ array.ahead) }
     ensures planned { IfOk result.1 (λ plan. IsGrowPlanned B.tells (B.given result.0.parts.bank) (moving_world (B.given result.0.parts.bank) (B.tape result.0.parts.bank) result.0) asked.1 plan.left result.0) }
-    ensures goes { OnOk result.1 (GoesTo B.tells (moving_world (B.given result.0.parts.bank) (B.tape result.0.parts.bank) result.0) still result.0) }
+    ensures goes { OnOk result.1 (GoesTo B.tells (moving_world (B.given result.0.parts.bank) (B.tape result.0.parts.bank) result.0) array result.0) }
     ensures left { IfOk result.1 (λ plan. plan.left ≡ still_left result.0.parts.work result.0.parts.members result.0.ahead) }
-    ensures wide { let m = still.parts.members in IfOk result.1 (λ plan. 512 * largest_window (shape_of m.newest) m.newest.size (phases_of result.0.ahead) ≤ length plan.window.items) }
+    ensures wide { let m = array.parts.members in IfOk result.1 (λ plan. 512 * largest_window (shape_of m.newest) m.newest.size (phases_of result.0.ahead) ≤ length plan.window.items) }
+    ensures still { is_reshaping result.0.parts.members.newest ≡ false }
 {
-    array_open::plan_grow(still, asked.0, asked.1)
+    array_open::plan_grow(array, asked.0, asked.1)
 }
 
 // The same, of an array in a reshape.
-fn refuse_moving<B: Bank>(
-    moving: Moving<B>,
+fn refuse_in_reshape<B: Bank>(
+    array: Array<B>,
     asked: (Who, Wish),
-) -> (Moving<B>, Result<PlannedGrow, Fault>)
-    requires next { asked.0.number ≡ next_number asked.0.caller moving.parts.entries }
+) -> (Array<B>, Result<PlannedGrow, Fault>)
+    requires next { asked.0.number ≡ next_number asked.0.caller array.parts.entries }
     requires caller { asked.0.caller ≢ 254 }
-    ensures answered { IsGrowAnswered B.tells (moving_world (B.given moving.parts.bank) (B.tape moving.parts.bank) moving) (asked_in (B.given moving.parts.bank) moving) asked.1 asked.0 moving.parts.entries result.0.parts.entries
+    requires active { is_reshaping array.parts.members.newest ≡ true }
+    ensures answered { IsGrowAnswered B.tells (moving_world (B.given array.parts.bank) (B.tape array.parts.bank) array) (asked_in (B.given array.parts.bank) array) asked.1 asked.0 array.parts.entries result.0.parts.entries
         (Refused (Busy Reshape)) result.1 }
-    ensures visible { visible_of (list_length moving.parts.members.newest) moving.parts.entries ≡ visible_in moving }
+    ensures visible { visible_of (list_length array.parts.members.newest) array.parts.entries ≡ visible_in array }
     ensures refused { IsErr result.1 }
-    ensures judged { IsGrowJudged (asked_in (B.given moving.parts.bank) moving) asked.1 result.1 }
-    ensures unchanged { OnNoMemory result.1 (result.0 ≡ moving) }
-    ensures as_before { IsAsBefore moving result.0 }
-    ensures limit { result.0.limit ≡ moving.limit }
+    ensures judged { IsGrowJudged (asked_in (B.given array.parts.bank) array) asked.1 result.1 }
+    ensures unchanged { OnNoMemory result.1 (result.0 ≡ array) }
+    ensures as_before { IsAsBefore array result.0 }
+    ensures limit { result.0.limit ≡ array.limit }
     ensures ended { IsEndOf B.tells result.0.parts.first result.0.parts.entries (B.tape result.0.parts.bank) }
-    ensures ahead { result.0.ahead ≡ moving.ahead }
+    ensures ahead { result.0.ahead ≡ array.ahead }
+    ensures active { is_reshaping result.0.parts.members.newest ≡ true }
 {
-    refuse_grow(moving, asked.0, &asked.1)
+    refuse_grow(array, asked.0, &asked.1)
 }
 
 /// Plans the grow that a wish asks for: its phases are ahead then, a reshape, a takeover of the level, or both; and the answer is how
@@ -89,25 +91,21 @@ pub fn plan_grow<B: Bank>(array: &mut Running<B>, who: Who, wish: Wish) -> Resul
     ensures planned { IfOk result (λ left. IsGrowPlanned B.tells (B.given array.new.parts.bank) (moving_world (B.given array.new.parts.bank) (B.tape array.new.parts.bank) array.new) wish left array.new) }
     ensures left { IfOk result (λ left. left ≡ running_left array.new) }
 {
-    match &mut array.state {
-        State::Still(still) => {
-            let made = replace_with(still, (who, wish), plan_still);
-            check_still(still);
-            match made {
-                Ok(plan) => {
-                    array.window = plan.window;
-                    Ok(plan.left)
-                }
-                Err(fault) => Err(fault),
-            }
+    if array.array.is_reshaping() {
+        let made = replace_with(&mut array.array, (who, wish), refuse_in_reshape);
+        check_array(&array.array);
+        return match made {
+            Ok(_) => unreachable!(),
+            Err(fault) => Err(fault),
+        };
+    }
+    let made = replace_with(&mut array.array, (who, wish), plan_at_rest);
+    check_array(&array.array);
+    match made {
+        Ok(plan) => {
+            array.window = plan.window;
+            Ok(plan.left)
         }
-        State::Moving(moving) => {
-            let made = replace_with(moving, (who, wish), refuse_moving);
-            check_moving(moving);
-            match made {
-                Ok(_) => unreachable!(),
-                Err(fault) => Err(fault),
-            }
-        }
+        Err(fault) => Err(fault),
     }
 }

@@ -19,7 +19,7 @@ ghost use Rattle.array_open.specs.array_specs_Calls.{moving_world, IsCalled};
 ghost use Rattle.array_open.specs.array_Calls.{IsReadRight, IsReadLacked};
 
 use array_call_specs::{Fault, Who};
-use array_open::{Running, State, check_moving, check_still};
+use array_open::{Running, check_array, read_at_rest, read_in_reshape};
 use bank::Bank;
 
 /// Fills `into`, of whole sectors, with those of the list from `at` on; what a missing member held is filled in from the
@@ -52,16 +52,12 @@ pub fn read<B: Bank>(
     ensures course { array.new.course ≡ array.old.course }
     ensures given { B.given array.new.parts.bank ≡ B.given array.old.parts.bank }
 {
-    match &mut array.state {
-        State::Still(still) => {
-            let done = array_open::read_still(still, who, at, into);
-            check_still(still);
-            done
-        }
-        State::Moving(moving) => {
-            let done = array_open::read_moving(moving, who, at, into);
-            check_moving(moving);
-            done
-        }
+    if array.array.is_reshaping() {
+        let done = read_in_reshape(&mut array.array, who, at, into);
+        check_array(&array.array);
+        return done;
     }
+    let done = read_at_rest(&mut array.array, who, at, into);
+    check_array(&array.array);
+    done
 }

@@ -12,7 +12,7 @@ ghost use Rattle.array_open.specs.array_call_specs_Calls.{IsAnswered, IsCausedBy
 ghost use Rattle.array_open.specs.array_specs_Calls.{IsCalled};
 
 use array_call_specs::{Fault, Who};
-use array_open::{Running, State, check_moving, check_still};
+use array_open::{Running, check_array};
 use bank::Bank;
 
 /// Makes what was written durable, and marks the array clean, unless a resync is pending. Refusals: `TooManyMissing`.
@@ -31,16 +31,7 @@ pub fn flush<B: Bank>(array: &mut Running<B>, who: Who) -> Result<(), Fault>
     ensures course { array.new.course ≡ array.old.course }
     ensures given { B.given array.new.parts.bank ≡ B.given array.old.parts.bank }
 {
-    match &mut array.state {
-        State::Still(still) => {
-            let done = still.flush(who);
-            check_still(still);
-            done
-        }
-        State::Moving(moving) => {
-            let done = moving.flush(who);
-            check_moving(moving);
-            done
-        }
-    }
+    let done = array_open::flush(&mut array.array, who);
+    check_array(&array.array);
+    done
 }

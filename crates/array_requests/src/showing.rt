@@ -8,7 +8,7 @@ ghost use Rattle.array_open.specs.array_specs_Calls.{moving_world, IsSameReshape
 ghost use Rattle.array_open.specs.array_Calls.{IsShownAs};
 
 use array_call_specs::{NoMemory, Status, Who};
-use array_open::{Running, State, check_moving, check_still};
+use array_open::{Running, check_array};
 use bank::Bank;
 
 /// What the array tells of itself, entered in its history. It makes no device call.
@@ -26,16 +26,7 @@ pub fn status<B: Bank>(array: &mut Running<B>, who: Who) -> Result<Status, NoMem
     ensures ended { IsEndOf B.tells array.new.parts.first array.new.parts.entries (B.tape array.new.parts.bank) }
     ensures same { IsSameReshape B.tells array.old array.new (moving_world (B.given array.old.parts.bank) (B.tape array.old.parts.bank) array.old) (moving_world (B.given array.new.parts.bank) (B.tape array.new.parts.bank) array.new) }
 {
-    match &mut array.state {
-        State::Still(still) => {
-            let status = still.status(who);
-            check_still(still);
-            status
-        }
-        State::Moving(moving) => {
-            let status = moving.status(who);
-            check_moving(moving);
-            status
-        }
-    }
+    let status = array_open::status(&mut array.array, who);
+    check_array(&array.array);
+    status
 }

@@ -21,7 +21,7 @@ ghost use Rattle.array_open.specs.array_reshaping_laws_Writing.{TouchesWindow, I
 ghost use Rattle.array_open.specs.array_Calls.{IsWriteLackedIn};
 
 use array_call_specs::{Fault, Who};
-use array_open::{Running, State, check_moving, check_still};
+use array_open::{Running, check_array, write_at_rest, write_in_reshape};
 use bank::Bank;
 
 /// Makes the list hold `from`, of 1 to 128 whole sectors, from `at` on. Where some lie in the open window of a reshape, that is
@@ -58,16 +58,12 @@ pub fn write<B: Bank>(array: &mut Running<B>, who: Who, at: u64, from: &[u8]) ->
     ensures closed { OnOk result (TouchesWindow array.old.course.window at (at + length from.now / 512) → array.new.course ≡ closed 0) }
     ensures given { B.given array.new.parts.bank ≡ B.given array.old.parts.bank }
 {
-    match &mut array.state {
-        State::Still(still) => {
-            let done = array_open::write_still(still, who, at, from);
-            check_still(still);
-            done
-        }
-        State::Moving(moving) => {
-            let done = array_open::write_moving(moving, who, at, from);
-            check_moving(moving);
-            done
-        }
+    if array.array.is_reshaping() {
+        let done = write_in_reshape(&mut array.array, who, at, from);
+        check_array(&array.array);
+        return done;
     }
+    let done = write_at_rest(&mut array.array, who, at, from);
+    check_array(&array.array);
+    done
 }

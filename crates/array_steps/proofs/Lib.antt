@@ -32,6 +32,7 @@ pub use Rattle.array.proofs.history_laws_GrowingLaws
 pub use Rattle.array.proofs.array_fixed_laws_PlansKept
 pub use Rattle.array.proofs.Closed as array_Closed
 pub use Rattle.array.proofs.Kept as array_Kept
+pub use Rattle.array.proofs.Both as array_Both
 pub use Rattle.array.proofs.array_members_MovedLaws
 pub use Rattle.array.proofs.array_grow_Idle
 pub use Rattle.array.proofs.array_grow_PlanLaws

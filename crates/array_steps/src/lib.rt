@@ -6,10 +6,10 @@ mod stepping;
 mod turns;
 
 pub use array::{
-    Course, Moving, Opened, Pieces, PlannedGrow, Room, Running, State, Still, add_moving,
-    add_still, append_absent, check_moving, check_still, final_in, found_numbers, list_sectors,
-    plan_grow, read_moving, read_still, refuse_grow, refuse_limit, room_for, shape_in,
-    write_moving, write_still, zeros,
+    Array, Course, Pieces, PlannedGrow, Room, Running, add, append_absent, check_array, examine,
+    fail, final_in, flush, found_numbers, halt, list_sectors, plan_grow, read_at_rest,
+    read_in_reshape, refuse_grow, refuse_limit, room_for, shape_in, status, stop, write_at_rest,
+    write_in_reshape, zeros,
 };
 pub use batch::steps;
 pub use stepping::step;

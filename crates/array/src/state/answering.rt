@@ -6,31 +6,12 @@ ghost use Rattle.array_grow.specs.array_call_specs_Calls.{IsEntered};
 ghost use Rattle.array_grow.specs.history_invariant_Recorded.{IsCallGoing};
 ghost use Rattle.array_grow.specs.array_specs_Calls.{IsCalled};
 ghost use Rattle.array_grow.specs.array_fixed_laws_Steps.{MayAnswer};
-ghost use Rattle.array_grow.specs.array_reshaping_steps_Replies.{IsReplyInReshape};
 ghost use Rattle.array_grow.specs.array_reply_specs_Going.{HasNoReshape};
 ghost use Rattle.array.specs.Calls.{running_left, IsReplyNow};
 
-use crate::state::{Running, State, check_moving, check_still};
-use array_grow::{Bank, Moving, Who, answer};
+use crate::state::{Running, check_array};
+use array_grow::{Bank, Who, answer};
 use array_takeover::Event;
-use core::mem::replace_with;
-
-// Answers in an array in a reshape.
-fn answer_in<B: Bank>(moving: Moving<B>, reply: (Who, Event)) -> (Moving<B>, ())
-    requires open { IsCallGoing moving.parts.entries reply.0 }
-    requires caller { reply.0.caller ≢ 254 }
-    requires room { 1 ≤ moving.parts.steps }
-    requires reply { IsReplyInReshape moving.parts.work moving.parts.members moving.course moving.ahead reply.1 }
-    ensures entered { IsEntered B.tells (B.tape moving.parts.bank) reply.0 moving.parts.entries result.0.parts.entries (reply.1 ∷ []) }
-    ensures room { result.0.parts.steps + 1 ≡ moving.parts.steps }
-    ensures bank { result.0.parts.bank ≡ moving.parts.bank }
-    ensures members { result.0.parts.members ≡ moving.parts.members }
-    ensures course { result.0.course ≡ moving.course }
-    ensures called { IsCalled B.tells (B.given moving.parts.bank) (B.tape moving.parts.bank) (B.tape result.0.parts.bank) (B.faults_of moving.parts.bank) (B.faults_of result.0.parts.bank) moving result.0 }
-{
-    let (who, event) = reply;
-    (answer(moving, who, event), ())
-}
 
 impl<B: Bank> Running<B> {
     /// Answers a request for steps: that nothing was left to do, or how many were done and what refused one. Without a reshape, and where none
@@ -50,16 +31,8 @@ impl<B: Bank> Running<B> {
         ensures course { self.new.course ≡ self.old.course }
         ensures called { IsCalled B.tells (B.given self.old.parts.bank) (B.tape self.old.parts.bank) (B.tape self.new.parts.bank) (B.faults_of self.old.parts.bank) (B.faults_of self.new.parts.bank) self.old self.new }
     {
-        match &mut self.state {
-            State::Still(still) => {
-                still.answer(who, event);
-                check_still(still);
-            }
-            State::Moving(moving) => {
-                check_moving(moving);
-                replace_with(moving, (who, event), answer_in);
-                check_moving(moving);
-            }
-        }
+        check_array(&self.array);
+        answer(&mut self.array, who, event);
+        check_array(&self.array);
     }
 }

@@ -13,7 +13,7 @@ ghost use Rattle.array_grow.specs.array_transition_Begun.{HasKeptLength, IsResha
 ghost use Rattle.array.specs.Calls.{MayEndSteps};
 
 use crate::state::choosing::phases_behind;
-use crate::state::{Running, State, check_moving, check_still};
+use crate::state::{Running, check_array};
 use array_grow::{Bank, Refusal, Shape, Who, begin_reshape};
 
 impl<B: Bank> Running<B> {
@@ -42,32 +42,25 @@ impl<B: Bank> Running<B> {
     {
         let Running {
             alloc,
-            state,
+            array,
             window,
         } = self;
-        let State::Still(still) = state else {
-            unreachable!()
-        };
-        let (still, behind) = phases_behind(still);
-        match begin_reshape(still, who, to, behind, window) {
-            Ok(moving) => {
-                let mut moving = moving;
-                check_moving(&mut moving);
-                let state = State::Moving(moving);
+        let behind = phases_behind(&array);
+        match begin_reshape(array, who, to, behind, window) {
+            Ok(array) => {
+                check_array(&array);
                 let window = Vec::new(alloc);
                 Ok(Running {
                     alloc,
-                    state,
+                    array,
                     window,
                 })
             }
-            Err((still, window, refusal)) => {
-                let mut still = still;
-                check_still(&mut still);
-                let state = State::Still(still);
+            Err((array, window, refusal)) => {
+                check_array(&array);
                 let running = Running {
                     alloc,
-                    state,
+                    array,
                     window,
                 };
                 Err((running, refusal))

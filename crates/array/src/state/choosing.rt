@@ -1,17 +1,16 @@
 //! What is next to do in a running array.
 
-ghost use Rattle.std.specs.Prelude.{◌≡◌, ◌≢◌, ◌<◌, ◌∷◌, List, [], true, IfSome, IfNone};
+ghost use Rattle.std.specs.Prelude.{◌≡◌, ◌≢◌, ◌<◌, ◌∷◌, List, [], true, false, IfSome, IfNone};
 ghost use Rattle.array_grow.specs.raid_types_the_Phase.{Phase as APhase};
 ghost use Rattle.array_takeover.specs.sb_specs_Reading.{is_reshaping};
 ghost use Rattle.array_takeover.specs.reshape_request_Left.{phases_of};
-ghost use Rattle.array.specs.State.{IsStillNow};
 ghost use Rattle.array.specs.Calls.{running_left, IsNext};
 ghost use Rattle.array.specs.declared.state.choosing.Next.TheVariants.{Nothing as IsDone};
 
-use crate::state::{Running, State, check_moving, check_still};
-use array_grow::{Bank, Due, Moving, Phase, Shape, Still, due_step, steps_left};
+use crate::state::Running;
+use array_grow::{Bank, Due, Phase, Shape, due_step, steps_left};
 use array_takeover::PhasesLeft;
-use core::mem::replace_with;
+use array_type::Array;
 
 /// What is next to do in a running array: nothing; a step of a resync or of a rebuild, without a reshape; the reshape to this shape
 /// begins, which is ahead; the level is taken over, to this shape; a step of the active reshape, or of a resync beside it; or the
@@ -47,74 +46,57 @@ fn first_phase(ahead: &PhasesLeft) -> Option<(Phase, PhasesLeft)>
     }
 }
 
-// The phases behind the first one ahead; the array is as it was.
-pub(crate) fn phases_behind<B: Bank>(still: Still<B>) -> (Still<B>, PhasesLeft)
-    requires some { (phase : APhase) × (more : List APhase) × (phases_of still.ahead ≡ phase ∷ more) }
-    ensures same { result.0 ≡ still }
-    ensures behind { (phase : APhase) × (phases_of still.ahead ≡ phase ∷ phases_of result.1) }
+// The phases behind the first one ahead.
+pub(crate) fn phases_behind<B: Bank>(array: &Array<B>) -> PhasesLeft
+    requires some { (phase : APhase) × (more : List APhase) × (phases_of array.now.ahead ≡ phase ∷ more) }
+    ensures behind { (phase : APhase) × (phases_of array.now.ahead ≡ phase ∷ phases_of result) }
 {
-    let pieces = still.take_apart();
-    let Some((_, behind)) = first_phase(&pieces.ahead) else {
+    let Some((_, behind)) = first_phase(&array.ahead) else {
         unreachable!()
     };
-    (Still::of_pieces(pieces), behind)
+    behind
 }
 
 // What is next without a reshape.
-fn next_still<B: Bank>(still: Still<B>, _none: ()) -> (Still<B>, Next)
-    requires rest { IsStillNow still }
-    ensures same { result.0 ≡ still }
-    ensures next { IsNext still result.1 }
-    ensures some { result.1 ≢ IsDone → 0 < running_left still }
+fn next_at_rest<B: Bank>(array: &Array<B>) -> Next
+    requires still { is_reshaping array.now.parts.members.newest ≡ false }
+    ensures next { IsNext array.now result }
+    ensures some { result ≢ IsDone → 0 < running_left array.now }
 {
-    let pieces = still.take_apart();
-    let next = if steps_left(&pieces.members, &pieces.work) > 0 {
+    if steps_left(&array.members, &array.work) > 0 {
         Next::Own
     } else {
-        match first_phase(&pieces.ahead) {
+        match first_phase(&array.ahead) {
             None => Next::Nothing,
             Some((Phase::Reshape(to), _)) => Next::Begin(to),
             Some((Phase::UpTo6(to), _)) => Next::Take(to),
             Some((Phase::DownTo5(to), _)) => Next::Take(to),
         }
-    };
-    (Still::of_pieces(pieces), next)
+    }
 }
 
 // What is next in a reshape.
-fn next_moving<B: Bank>(moving: Moving<B>, _none: ()) -> (Moving<B>, Next)
-    requires active { is_reshaping moving.parts.members.newest ≡ true }
-    ensures same { result.0 ≡ moving }
-    ensures next { IsNext moving result.1 }
-    ensures some { result.1 ≢ IsDone → 0 < running_left moving }
+fn next_in_reshape<B: Bank>(array: &Array<B>) -> Next
+    requires active { is_reshaping array.now.parts.members.newest ≡ true }
+    ensures next { IsNext array.now result }
+    ensures some { result ≢ IsDone → 0 < running_left array.now }
 {
-    let (pieces, course, window) = moving.take_apart();
-    let Some(backup) = pieces.backup else {
-        unreachable!()
-    };
-    let next = match due_step(&pieces.members, &course, pieces.work.resync) {
+    match due_step(&array.members, &array.course, array.work.resync) {
         Due::Finish => Next::Finish,
         _ => Next::Move,
-    };
-    (Moving::of_pieces(pieces, backup, course, window), next)
+    }
 }
 
 impl<B: Bank> Running<B> {
-    /// What is next to do; the array is as it was.
-    pub fn next(&mut self) -> Next
-        ensures same { self.new ≡ self.old }
-        ensures next { IsNext self.old result }
-        ensures some { result ≢ IsDone → 0 < running_left self.old }
+    /// What is next to do.
+    pub fn next(&self) -> Next
+        ensures next { IsNext self.now result }
+        ensures some { result ≢ IsDone → 0 < running_left self.now }
     {
-        match &mut self.state {
-            State::Still(still) => {
-                check_still(still);
-                replace_with(still, (), next_still)
-            }
-            State::Moving(moving) => {
-                check_moving(moving);
-                replace_with(moving, (), next_moving)
-            }
+        if self.array.is_reshaping() {
+            next_in_reshape(&self.array)
+        } else {
+            next_at_rest(&self.array)
         }
     }
 }

@@ -13,7 +13,7 @@ ghost use Rattle.array_grow.specs.array_fixed_laws_Steps.{IsClosable};
 ghost use Rattle.array_grow.specs.array_transition_Ended.{IsReshapeEnded};
 ghost use Rattle.array.specs.Calls.{MayEndSteps};
 
-use crate::state::{Running, State, check_moving, check_still};
+use crate::state::{Running, check_array};
 use array_grow::{Bank, Refusal, Who, finish_reshape};
 
 impl<B: Bank> Running<B> {
@@ -40,32 +40,24 @@ impl<B: Bank> Running<B> {
     {
         let Running {
             alloc,
-            state,
+            array,
             window,
         } = self;
-        let State::Moving(moving) = state else {
-            unreachable!()
-        };
-        let mut moving = moving;
-        check_moving(&mut moving);
-        match finish_reshape(moving, who) {
-            Ok(still) => {
-                let mut still = still;
-                check_still(&mut still);
-                let state = State::Still(still);
+        check_array(&array);
+        match finish_reshape(array, who) {
+            Ok(array) => {
+                check_array(&array);
                 Ok(Running {
                     alloc,
-                    state,
+                    array,
                     window,
                 })
             }
-            Err((moving, refusal)) => {
-                let mut moving = moving;
-                check_moving(&mut moving);
-                let state = State::Moving(moving);
+            Err((array, refusal)) => {
+                check_array(&array);
                 let running = Running {
                     alloc,
-                    state,
+                    array,
                     window,
                 };
                 Err((running, refusal))

@@ -21,7 +21,7 @@ ghost use Rattle.array_grow.specs.array_fixed_sync_Rebuilding.{first_recovering,
 ghost use Rattle.array_grow.specs.array_fixed_sync_Stepping.{IsUndone, IsEnd, IsStepEntered, next_kind, after_step, IsHeldOrDue};
 ghost use Rattle.array.specs.Calls.{IsRefusedInStep};
 
-use crate::state::{Running, State, check_still};
+use crate::state::{Running, check_array};
 use array_grow::{Bank, Fault, Who, first_recovering, still_step};
 
 impl<B: Bank> Running<B> {
@@ -29,13 +29,11 @@ impl<B: Bank> Running<B> {
     pub fn recovers(&self) -> bool
         ensures { is_reshaping self.now.parts.members.newest ≡ false → result ≡ is_some (first_recovering self.now.parts.members) }
     {
-        match &self.state {
-            State::Still(still) => {
-                let disks = still.disks();
-                first_recovering(still.members(), disks).is_some()
-            }
-            State::Moving(_) => false,
+        if self.array.is_reshaping() {
+            return false;
         }
+        let disks = self.array.disks();
+        first_recovering(self.array.members(), disks).is_some()
     }
 
     /// Does the next step of an array without a reshape, of which one is left besides those of the phases ahead: of the resync where one
@@ -71,11 +69,8 @@ impl<B: Bank> Running<B> {
         ensures course { self.new.course ≡ self.old.course }
         ensures given { B.given self.new.parts.bank ≡ B.given self.old.parts.bank }
     {
-        let State::Still(still) = &mut self.state else {
-            unreachable!()
-        };
-        let done = still_step(still, who);
-        check_still(still);
+        let done = still_step(&mut self.array, who);
+        check_array(&self.array);
         done
     }
 }

@@ -12,7 +12,7 @@ ghost use Rattle.array_grow.specs.array_reshaping_laws_Resyncing.{IsResyncCalled
 ghost use Rattle.array_grow.specs.array_reshaping_laws_Steps.{kind_of, resync_behind, IsMarkedBehind, IsStepCaused};
 ghost use Rattle.array.specs.Calls.{IsRefusedInStep};
 
-use crate::state::{Running, State, check_moving};
+use crate::state::{Running, check_array};
 use array_grow::{Bank, Fault, Who};
 
 impl<B: Bank> Running<B> {
@@ -41,11 +41,8 @@ impl<B: Bank> Running<B> {
         ensures room { self.new.parts.steps + 1 ≡ self.old.parts.steps }
         ensures given { B.given self.new.parts.bank ≡ B.given self.old.parts.bank }
     {
-        let State::Moving(moving) = &mut self.state else {
-            unreachable!()
-        };
-        let done = array_grow::step(moving, who);
-        check_moving(moving);
+        let done = array_grow::step(&mut self.array, who);
+        check_array(&self.array);
         done
     }
 }

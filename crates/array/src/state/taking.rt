@@ -12,7 +12,7 @@ ghost use Rattle.array_takeover.specs.TakenOver.{IsTakeoverNext, IsUntaken, IsUn
 ghost use Rattle.array.specs.Calls.{MayEndSteps};
 
 use crate::state::choosing::phases_behind;
-use crate::state::{Running, State, check_still};
+use crate::state::{Running, check_array};
 use array_grow::{Bank, Refusal, Shape, Who};
 use array_takeover::take_over as take_level;
 
@@ -39,31 +39,24 @@ impl<B: Bank> Running<B> {
     {
         let Running {
             alloc,
-            state,
+            array,
             window,
         } = self;
-        let State::Still(still) = state else {
-            unreachable!()
-        };
-        let (still, behind) = phases_behind(still);
-        match take_level(still, who, to, behind) {
-            Ok(still) => {
-                let mut still = still;
-                check_still(&mut still);
-                let state = State::Still(still);
+        let behind = phases_behind(&array);
+        match take_level(array, who, to, behind) {
+            Ok(array) => {
+                check_array(&array);
                 Ok(Running {
                     alloc,
-                    state,
+                    array,
                     window,
                 })
             }
-            Err((still, refusal)) => {
-                let mut still = still;
-                check_still(&mut still);
-                let state = State::Still(still);
+            Err((array, refusal)) => {
+                check_array(&array);
                 let running = Running {
                     alloc,
-                    state,
+                    array,
                     window,
                 };
                 Err((running, refusal))

@@ -39,8 +39,8 @@ pub returns-in-Err-find_window-clause-left_counts : goal.returns-in-Err-find_win
 returns-in-Err-find_window-clause-left_counts g c =
     backup-fails (g.B.Bank.given c.args.bank) c.args.backup (g.B.Bank.faults_of c.args.bank) (g.B.Bank.faults_of c.find_window.new.bank) c.requires.slot c.find_window.ensures.never_falls c.find_window.ensures.others
 
-pub begin_moving-moving-requires-clause-opened : goal.begin_moving-moving-requires-clause-opened
-begin_moving-moving-requires-clause-opened g c =
+pub begin_moving-array-requires-clause-opened : goal.begin_moving-array-requires-clause-opened
+begin_moving-array-requires-clause-opened g c =
     let tells = g.B.Bank.tells in
     let bank : Given = g.B.Bank.given c.args.bank in
     let tape : List Operation = g.B.Bank.tape c.args.bank in
@@ -57,8 +57,8 @@ begin_moving-moving-requires-clause-opened g c =
     (subst (λ (l : List ℕ). IsOpenedMoving tells bank tape' c.args.given c.args.backup c.args.members found l) (same-bytes found buffer)
     (opened-same bank tape tape' c.args.given c.args.backup c.args.members found (bytes_for found buffer) did.tape opened)))
 
-pub begin_moving-moving-requires-clause-failed : goal.begin_moving-moving-requires-clause-failed
-begin_moving-moving-requires-clause-failed g c slot known none =
+pub begin_moving-array-requires-clause-failed : goal.begin_moving-array-requires-clause-failed
+begin_moving-array-requires-clause-failed g c slot known none =
     let did = c.in-Ok-find_window.ensures in
     let was = c.requires.failed slot (omega (arith, known, ap (λ (b : Given). b.slots) did.given)) none in
     let rose = did.never_falls slot in
@@ -70,17 +70,17 @@ returns-clause-adopted g c =
     let tape : List Operation = g.B.Bank.tape c.args.bank in
     let tape' : List Operation = g.B.Bank.tape c.find_window.new.bank in
     let did = c.in-Ok-find_window.ensures in
-    subst (λ (b : Given). IsMovingAdopted tells b tape c.args.given c.args.backup c.args.members c.begin_moving-moving.result) did.given
-    (adopted-same (g.B.Bank.given c.find_window.new.bank) tape' tape c.args.given c.args.backup c.args.members c.begin_moving-moving.result (λ t. sym (did.tape t)) c.begin_moving-moving.ensures.adopted)
+    subst (λ (b : Given). IsMovingAdopted tells b tape c.args.given c.args.backup c.args.members c.begin_moving-array.result) did.given
+    (adopted-same (g.B.Bank.given c.find_window.new.bank) tape' tape c.args.given c.args.backup c.args.members c.begin_moving-array.result (λ t. sym (did.tape t)) c.begin_moving-array.ensures.adopted)
 
 pub returns-clause-counts : goal.returns-clause-counts
 returns-clause-counts g c =
-    subst (λ b. OnlyItsSlotsFail (g.B.Bank.given c.args.bank) (g.B.Bank.faults_of c.args.bank) (g.B.Bank.faults_of b)) (sym c.begin_moving-moving.ensures.bank)
+    subst (λ b. OnlyItsSlotsFail (g.B.Bank.given c.args.bank) (g.B.Bank.faults_of c.args.bank) (g.B.Bank.faults_of b)) (sym c.begin_moving-array.ensures.bank)
     (backup-fails (g.B.Bank.given c.args.bank) c.args.backup (g.B.Bank.faults_of c.args.bank) (g.B.Bank.faults_of c.find_window.new.bank) c.requires.slot
     c.in-Ok-find_window.ensures.never_falls c.in-Ok-find_window.ensures.others)
 
-pub begin_moving-moving-requires-clause-wide : goal.begin_moving-moving-requires-clause-wide
-begin_moving-moving-requires-clause-wide g c =
+pub begin_moving-array-requires-clause-wide : goal.begin_moving-array-requires-clause-wide
+begin_moving-array-requires-clause-wide g c =
     let buffer = c.find_window.new.buffer in
     let did = c.in-Ok-find_window.ensures in
     let same = ap (λ (l : List ℕ). length l) (written-whole c.in-Ok-zeros.window.len c.in-Ok-zeros.window.items buffer (omega (arith, did.long, c.deref_mut.ensures.len, c.in-Ok-zeros.window.ok.0)) c.in-Ok-zeros.window.ok.0) in
@@ -98,20 +98,20 @@ returns-in-Err-zeros-clause-refused g c = inl (c.in-Err-zeros.ensures.no_memory,
 pub returns-in-Err-room_for-clause-refused : goal.returns-in-Err-room_for-clause-refused
 returns-in-Err-room_for-clause-refused g c = inl (refl, refl)
 
-pub begin_moving-moving-requires-clause-buffer : goal.begin_moving-moving-requires-clause-buffer
-begin_moving-moving-requires-clause-buffer g c = c.in-Ok.ensures.buffer
+pub begin_moving-array-requires-clause-buffer : goal.begin_moving-array-requires-clause-buffer
+begin_moving-array-requires-clause-buffer g c = c.in-Ok.ensures.buffer
 
-pub begin_moving-moving-requires-clause-empty : goal.begin_moving-moving-requires-clause-empty
-begin_moving-moving-requires-clause-empty g c = c.in-Ok.ensures.empty
+pub begin_moving-array-requires-clause-empty : goal.begin_moving-array-requires-clause-empty
+begin_moving-array-requires-clause-empty g c = c.in-Ok.ensures.empty
 
-pub begin_moving-moving-requires-clause-room : goal.begin_moving-moving-requires-clause-room
-begin_moving-moving-requires-clause-room g c = c.in-Ok.ensures.entries
+pub begin_moving-array-requires-clause-room : goal.begin_moving-array-requires-clause-room
+begin_moving-array-requires-clause-room g c = c.in-Ok.ensures.entries
 
-pub begin_moving-moving-requires-clause-rows : goal.begin_moving-moving-requires-clause-rows
-begin_moving-moving-requires-clause-rows g c = c.in-Ok.ensures.rows
+pub begin_moving-array-requires-clause-rows : goal.begin_moving-array-requires-clause-rows
+begin_moving-array-requires-clause-rows g c = c.in-Ok.ensures.rows
 
-pub begin_moving-moving-requires-clause-first : goal.begin_moving-moving-requires-clause-first
-begin_moving-moving-requires-clause-first g c = c.ops-first.ensures.count
+pub begin_moving-array-requires-clause-first : goal.begin_moving-array-requires-clause-first
+begin_moving-array-requires-clause-first g c = c.ops-first.ensures.count
 
-pub begin_moving-moving-requires-clause-far_buffer : goal.begin_moving-moving-requires-clause-far_buffer
-begin_moving-moving-requires-clause-far_buffer g c = c.in-Ok-room_for.ensures.buffer
+pub begin_moving-array-requires-clause-far_buffer : goal.begin_moving-array-requires-clause-far_buffer
+begin_moving-array-requires-clause-far_buffer g c = c.in-Ok-room_for.ensures.buffer

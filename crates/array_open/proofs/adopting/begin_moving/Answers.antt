@@ -2,7 +2,7 @@ use Rattle.std.proofs.Common.{◌≡◌, ◌++◌, ℕ, List, [], length, Some, 
 use Rattle.std.proofs.lemmas.List.{length-map}
 use Rattle.array_create_assemble.specs.bank_Given.{Given}
 use Rattle.array_create_assemble.specs.sb_specs_the_Members.{Members}
-use Rattle.array_create_assemble.specs.sb_specs_Reading.{role_count}
+use Rattle.array_create_assemble.specs.sb_specs_Reading.{is_reshaping, role_count}
 use Rattle.array_steps.specs.stripe_row_Rows.{reading_of, role_without, members_without}
 use Rattle.array_create_assemble.specs.history_the_Entry.{Entry}
 use Rattle.array_create_assemble.specs.history_Plain.{entries_of}
@@ -54,8 +54,8 @@ overflow_cast-count g c =
     let same = same-roles c.lose_recovering.result c.args.members c.lose_recovering.new.members c.lose_recovering.ensures.members in
     omega (arith, few, same, c.len-count.ensures)
 
-pub of_pieces-requires-clause-ready : goal.of_pieces-requires-clause-ready
-of_pieces-requires-clause-ready g c =
+pub of_reshaping-requires-clause-ready : goal.of_reshaping-requires-clause-ready
+of_reshaping-requires-clause-ready g c =
     let given = g.B.Bank.given c.args.bank in
     let former = c.args.members in
     let lost = c.lose_recovering.result in
@@ -81,7 +81,7 @@ returns-clause-adopted g c =
     let did = c.append_absent.ensures in
     let epoch = c.append_absent.new.epoch in
     let placed = placed-by c.requires.opened.members_are in
-    adopted-as (g.B.Bank.given c.args.bank) (g.B.Bank.tape c.args.bank) c.args.given c.args.backup former c.of_pieces.result _ c.of_pieces.ensures.same (record {
+    adopted-as (g.B.Bank.given c.args.bank) (g.B.Bank.tape c.args.bank) c.args.given c.args.backup former c.of_reshaping.result _ c.of_reshaping.ensures.same (record {
       uuid = did.same.uuid ∙ ap (λ (m : Members). m.newest.set_uuid) members_are;
       given = did.same.given;
       first = λ t. did.same.first ∙ c.requires.first t;
@@ -101,4 +101,8 @@ returns-clause-adopted g c =
     })
 
 pub returns-clause-bank : goal.returns-clause-bank
-returns-clause-bank g c = ap (λ r. r.parts.bank) c.of_pieces.ensures.same
+returns-clause-bank g c = ap (λ r. r.parts.bank) c.of_reshaping.ensures.same
+
+pub returns-clause-active : goal.returns-clause-active
+returns-clause-active g c =
+    ap (λ r. is_reshaping r.parts.members.newest) c.of_reshaping.ensures.same ∙ ap (λ (m : Members). is_reshaping m.newest) c.lose_recovering.ensures.members ∙ c.requires.opened.members_are.active

@@ -1,42 +1,28 @@
-use Rattle.std.proofs.Common.{length}
-use Rattle.array_steps.proofs.array_Kept.{rest-looked, reshape-looked}
+use Rattle.std.proofs.Common.{◌<◌, length, sym, ap, subst}
+use Rattle.array_create_assemble.specs.sb_specs_Reading.{is_reshaping}
+use Rattle.array_steps.proofs.array_Both.{both-looked}
 use Rattle.array_open.proofs.examining.examine.Goals as goal
-use Rattle.array_open.proofs.examining.examine.Goals.{in-Still, in-Moving}
 
-pub returns-clause-found : goal.returns-clause-found
-returns-clause-found g c = elim c.match-array.branch [
-  | in-Still w ↦ rw (← c.array.view_is, w.in-Still.is, w.result-is) w.examine-found.ensures.found
-  | in-Moving w ↦ rw (← c.array.view_is, w.in-Moving.is, w.result-is) w.examine-found-in-Moving.ensures.found
-]
+pub examine-found-requires : goal.examine-found-requires
+examine-found-requires g c = record { slot = subst (λ p. c.args.slot < (g.B.Bank.given p.parts.bank).slots) (sym c.array.view_is) c.requires.slot }
 
 pub invariant_of-array : goal.invariant_of-array
-invariant_of-array g c = elim c.match-array.branch [
-  | in-Still w ↦
-      let was = rw w.in-Still.is at c.array.invariant in
-      let did = w.examine-found.ensures in
-      rw (w.array-inside-is, w.check_still.ensures.same)
-      (rest-looked g.B.Bank.given g.B.Bank.tape (length c.array.inside.window.items) w.in-Still.still w.examine-found.new.self did.given did.tape did.else_same w.check_still.ensures.rest w.check_still.ensures.within was)
-  | in-Moving w ↦
-      let was = rw w.in-Moving.is at c.array.invariant in
-      let did = w.examine-found-in-Moving.ensures in
-      rw (w.array-inside-is, w.check_moving.ensures.same)
-      (reshape-looked g.B.Bank.given g.B.Bank.tape (length c.array.inside.window.items) w.in-Moving.moving w.examine-found-in-Moving.new.self did.given did.tape did.else_same w.check_moving.ensures.active w.check_moving.ensures.within was)
-]
+invariant_of-array g c =
+    let did = c.examine-found.ensures in
+    both-looked g.B.Bank.given g.B.Bank.tape (length c.array.inside.window.items) c.array.inside.array c.examine-found.new.array (ap (λ p. is_reshaping p.parts.members.newest) did.else_same) did.given did.tape did.else_same
+    c.check_array.ensures.rest c.check_array.ensures.within c.array.invariant
+
+pub returns-clause-found : goal.returns-clause-found
+returns-clause-found g c = rw (← c.array.view_is) c.examine-found.ensures.found
 
 pub returns-clause-cause : goal.returns-clause-cause
-returns-clause-cause g c = elim c.match-array.branch [
-  | in-Still w ↦ rw (← c.array.view_is, w.in-Still.is, w.array-inside-is, w.check_still.ensures.same, w.result-is) w.examine-found.ensures.cause
-  | in-Moving w ↦ rw (← c.array.view_is, w.in-Moving.is, w.array-inside-is, w.check_moving.ensures.same, w.result-is) w.examine-found-in-Moving.ensures.cause
-]
+returns-clause-cause g c = rw (← c.array.view_is) c.examine-found.ensures.cause
 
 pub returns-clause-tape : goal.returns-clause-tape
-returns-clause-tape g c = elim c.match-array.branch [
-  | in-Still w ↦ rw (← c.array.view_is, w.in-Still.is, w.array-inside-is, w.check_still.ensures.same) w.examine-found.ensures.tape
-  | in-Moving w ↦ rw (← c.array.view_is, w.in-Moving.is, w.array-inside-is, w.check_moving.ensures.same) w.examine-found-in-Moving.ensures.tape
-]
+returns-clause-tape g c = rw (← c.array.view_is) c.examine-found.ensures.tape
+
+pub returns-clause-given : goal.returns-clause-given
+returns-clause-given g c = rw (← c.array.view_is) c.examine-found.ensures.given
 
 pub returns-clause-else_same : goal.returns-clause-else_same
-returns-clause-else_same g c = elim c.match-array.branch [
-  | in-Still w ↦ rw (← c.array.view_is, w.in-Still.is, w.array-inside-is, w.check_still.ensures.same) w.examine-found.ensures.else_same
-  | in-Moving w ↦ rw (← c.array.view_is, w.in-Moving.is, w.array-inside-is, w.check_moving.ensures.same) w.examine-found-in-Moving.ensures.else_same
-]
+returns-clause-else_same g c = rw (← c.array.view_is) c.examine-found.ensures.else_same

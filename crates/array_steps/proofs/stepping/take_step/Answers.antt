@@ -11,10 +11,10 @@ use Rattle.array_steps.proofs.Plain.{going-of}
 use Rattle.array_steps.proofs.stepping.take_step.Goals as goal
 
 -- behind a step that is done the call is open for the next one
-behind-open : {B : Type 0} (tells : Type 0) (given : B → Given) (tape : B → List Operation) (faults : B → ℕ → ℕ) (who : Who) (old at new : RunningParts B) (result : Result Bool Refusal)
-    → at ≡ old → IsOpenFor old who → IsStepTaken tells given tape faults who at new result → IfOk result (λ over. over ≡ false → 0 < running_left new → IsOpenFor new who)
-behind-open tells given tape faults who old at new (Ok over) same was taken = λ none left. taken.next_open none left (subst (λ a. IsOpenFor a who) (sym same) was)
-behind-open tells given tape faults who old at new (Err refusal) same was taken = tt
+behind-open : {B : Type 0} (tells : Type 0) (given : B → Given) (tape : B → List Operation) (faults : B → ℕ → ℕ) (who : Who) (old new : RunningParts B) (result : Result Bool Refusal)
+    → IsOpenFor old who → IsStepTaken tells given tape faults who old new result → IfOk result (λ over. over ≡ false → 0 < running_left new → IsOpenFor new who)
+behind-open tells given tape faults who old new (Ok over) was taken = λ none left. taken.next_open none left was
+behind-open tells given tape faults who old new (Err refusal) was taken = tt
 
 one-of : (n : ℕ) → 2 ≤ n → 1 ≤ n
 one-of n two = omega arith
@@ -23,25 +23,25 @@ pub replace_with-requires : goal.replace_with-requires
 replace_with-requires g c =
     let next = c.in-Begin.ensures.next in
     let kept = rw next.0.0 at c.requires.open in
-    rw c.next.ensures.same (kept, (c.requires.caller, (one-of c.args.array.now.parts.steps c.requires.room, (next.0.0, (next.0.1, (next.1, next.2))))))
+    (kept, (c.requires.caller, (one-of c.args.array.now.parts.steps c.requires.room, (next.0.0, (next.0.1, (next.1, next.2))))))
 
 pub replace_with-requires-in-Take : goal.replace_with-requires-in-Take
 replace_with-requires-in-Take g c =
     let next = c.in-Take.ensures.next in
-    rw c.next.ensures.same (going-of c.args.array.now c.args.who c.requires.open, (c.requires.caller, (one-of c.args.array.now.parts.steps c.requires.room, (next.0.0, (next.0.1, (next.1, next.2))))))
+    (going-of c.args.array.now c.args.who c.requires.open, (c.requires.caller, (one-of c.args.array.now.parts.steps c.requires.room, (next.0.0, (next.0.1, (next.1, next.2))))))
 
 pub returns-in-Own-clause-open : goal.returns-in-Own-clause-open
 returns-in-Own-clause-open g c =
-    behind-open g.B.Bank.tells g.B.Bank.given g.B.Bank.tape g.B.Bank.faults_of c.args.who c.args.array.now c.next.new.self c.own_step.new.array c.own_step.result c.next.ensures.same c.requires.open c.own_step.ensures.taken
+    behind-open g.B.Bank.tells g.B.Bank.given g.B.Bank.tape g.B.Bank.faults_of c.args.who c.args.array.now c.own_step.new.array c.own_step.result c.requires.open c.own_step.ensures.taken
 
 pub returns-in-Begin-clause-open : goal.returns-in-Begin-clause-open
 returns-in-Begin-clause-open g c =
-    behind-open g.B.Bank.tells g.B.Bank.given g.B.Bank.tape g.B.Bank.faults_of c.args.who c.args.array.now c.next.new.self c.replace_with.new.dest c.replace_with.result c.next.ensures.same c.requires.open c.replace_with.ensures.0
+    behind-open g.B.Bank.tells g.B.Bank.given g.B.Bank.tape g.B.Bank.faults_of c.args.who c.args.array.now c.replace_with.new.dest c.replace_with.result c.requires.open c.replace_with.ensures.0
 
 pub returns-in-Take-clause-open : goal.returns-in-Take-clause-open
 returns-in-Take-clause-open g c =
-    behind-open g.B.Bank.tells g.B.Bank.given g.B.Bank.tape g.B.Bank.faults_of c.args.who c.args.array.now c.next.new.self c.replace_with-in-Take.new.dest c.replace_with-in-Take.result c.next.ensures.same c.requires.open c.replace_with-in-Take.ensures.0
+    behind-open g.B.Bank.tells g.B.Bank.given g.B.Bank.tape g.B.Bank.faults_of c.args.who c.args.array.now c.replace_with-in-Take.new.dest c.replace_with-in-Take.result c.requires.open c.replace_with-in-Take.ensures.0
 
 pub returns-in-Move-clause-open : goal.returns-in-Move-clause-open
 returns-in-Move-clause-open g c =
-    behind-open g.B.Bank.tells g.B.Bank.given g.B.Bank.tape g.B.Bank.faults_of c.args.who c.args.array.now c.next.new.self c.move_step.new.array c.move_step.result c.next.ensures.same c.requires.open c.move_step.ensures.taken
+    behind-open g.B.Bank.tells g.B.Bank.given g.B.Bank.tape g.B.Bank.faults_of c.args.who c.args.array.now c.move_step.new.array c.move_step.result c.requires.open c.move_step.ensures.taken
