@@ -366,7 +366,9 @@ pub returns-in-Some-clause-active : goal.returns-in-Some-clause-active
 returns-in-Some-clause-active g c = (ap (λ p. is_reshaping p.parts.members.newest) c.moving.view_is ∙ c.requires.active)
 
 pub returns-in-Some-refusal-clause-active : goal.returns-in-Some-refusal-clause-active
-returns-in-Some-refusal-clause-active g c = c.record-done.ensures.moved.reshape.reshaping ∙ (ap (λ p. is_reshaping p.parts.members.newest) c.moving.view_is ∙ c.requires.active)
+returns-in-Some-refusal-clause-active g c =
+    (moved-if (g.B.Bank.given c.moving.inside.bank) c.in-Entered.span c.moving.inside.members c.record-done.new.members c.record-done.result.refusal c.in-Some-refusal.refusal c.in-Some-refusal.is c.record-done.ensures.moved).reshape.reshaping ∙ (ap (λ p. is_reshaping p.parts.members.newest) c.moving.view_is ∙ c.requires.active)
 
 pub returns-clause-active : goal.returns-clause-active
-returns-clause-active g c = c.record-done.ensures.moved.reshape.reshaping ∙ (ap (λ p. is_reshaping p.parts.members.newest) c.moving.view_is ∙ c.requires.active)
+returns-clause-active g c =
+    (moved-none (g.B.Bank.given c.moving.inside.bank) c.in-Entered.span c.moving.inside.members c.record-done.new.members c.record-done.result.refusal c.in_default-refusal.is c.record-done.ensures.moved).reshape.reshaping ∙ (ap (λ p. is_reshaping p.parts.members.newest) c.moving.view_is ∙ c.requires.active)

@@ -257,7 +257,7 @@ returns-clause-clean g c = c.flush_and_mark-settled.ensures.clean c.in_default-r
 pub returns-clause-good : goal.returns-clause-good
 returns-clause-good g c =
     let due = subst (λ p. IsResyncEndDue p) (sym c.moving.view_is) c.requires.due in
-    λ t fit. rows-good c.moving.inside.course due.aside (invariant_of-moving-2 g c).kept t fit
+    λ t fit. rows-good c.moving.inside.course due.aside ((invariant_of-moving-2 g c).moves (c.flush_and_mark-settled.ensures.keeps.moved.reshape.reshaping ∙ (ap (λ p. is_reshaping p.parts.members.newest) c.moving.view_is ∙ c.requires.active))).1.kept t fit
 
 pub returns-clause-flushed : goal.returns-clause-flushed
 returns-clause-flushed g c =
@@ -371,8 +371,8 @@ returns-clause-course g c = ap (λ p. p.course) c.moving.view_is
 pub returns-clause-work : goal.returns-clause-work
 returns-clause-work g c = ap (λ p. record p.parts.work { resync = None }) c.moving.view_is
 
-pub overflow_sub-self : goal.overflow_sub-self
-overflow_sub-self g c = subst (λ p. 1 ≤ p.parts.steps) (sym c.moving.view_is) c.requires.room
+pub overflow_sub-moving : goal.overflow_sub-moving
+overflow_sub-moving g c = subst (λ p. 1 ≤ p.parts.steps) (sym c.moving.view_is) c.requires.room
 
 pub returns-in-Some-clause-active : goal.returns-in-Some-clause-active
 returns-in-Some-clause-active g c = (ap (λ p. is_reshaping p.parts.members.newest) c.moving.view_is ∙ c.requires.active)

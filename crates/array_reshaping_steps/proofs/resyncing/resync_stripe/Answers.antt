@@ -205,8 +205,8 @@ returns-in-Some-refusal-clause-clean g c =
 
 -- ---- it is done
 
-pub overflow_add-self : goal.overflow_add-self
-overflow_add-self g c =
+pub overflow_add-moving : goal.overflow_add-moving
+overflow_add-moving g c =
     let a = c.moving.inside in
     let next = next-of _ c.unwrap_or-stripes.result (subst (λ p. IsResyncDue p) (sym c.moving.view_is) c.requires.due) c.unwrap_or-stripes.ensures in
     let short = mends-short a.members.newest (alike c.moving.invariant).kept.members_are.placed.fit in
