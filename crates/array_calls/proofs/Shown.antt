@@ -1,5 +1,5 @@
 -- What a status tells of an array, whether a reshape is active in it or not.
-use Rattle.std.proofs.Common.{◌≡◌, ◌∙◌, ℕ, Bool, true, false, Option, Some, None, cond, MatchBool, refl, sym, ap, subst}
+use Rattle.std.proofs.Common.{◌≡◌, ◌∙◌, Bool, true, false, Option, Some, None, cond, MatchBool, sym, ap, subst}
 use Rattle.std.specs.Prelude.{if◌then◌else◌, unwrap_or}
 use Rattle.array_state.specs.raid_types_the_Shape.{Shape}
 use Rattle.array_state.specs.raid_types_the_Status.{Status}

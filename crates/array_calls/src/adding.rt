@@ -18,7 +18,11 @@ ghost use Rattle.array_type.specs.sb_specs_Reads.{has_spare};
 ghost use Rattle.array_type.specs.stripe_row_Rows.{present};
 ghost use Rattle.std.specs.Prelude.{◌≡◌, ◌≢◌, ◌⊎◌, ◌<◌, ℕ, true, false, Some, OnOk};
 
-use array_type::{Array, Bank, Event, Fault, Refusal, Who, add_member, append_after_losses, append_entry, bear, check_number, contains, free_number, has_unnamed, look_at, newly_unassigned, spare_for, unaddable, unassigned_roles, with, without};
+use array_type::{
+    Array, Bank, Event, Fault, Refusal, Who, add_member, append_after_losses, append_entry, bear,
+    check_number, contains, free_number, has_unnamed, look_at, newly_unassigned, spare_for,
+    unaddable, unassigned_roles, with, without,
+};
 
 // Whether the slot was lost without a failure of its own, and the superblocks still name a role that no slot holds.
 fn is_held_up<B: Bank>(array: &Array<B>, slot: u32) -> bool

@@ -6,8 +6,8 @@ ghost use Rattle.sb_election.specs.sb_specs_Election.{IsCausedBy};
 ghost use Rattle.std.specs.Prelude.{◌≡◌, ◌<◌, length, IfOk};
 
 use array_type::{Array, Bank};
-use sb_election::{BankFault, Sb};
 use sb_election::reads::read_superblock;
+use sb_election::{BankFault, Sb};
 
 /// What the superblock of a slot says as it is stored now, whichever array's it is, and `None` where the slot has no valid
 /// one. It writes nothing and enters nothing. Where the slot fails it is lost by the next call that uses it.

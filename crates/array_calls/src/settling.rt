@@ -13,10 +13,17 @@ ghost use Rattle.array_type.specs.sb_specs_Reading.{is_clean, list_length, is_re
 ghost use Rattle.array_type.specs.stripe_row_Rows.{reading_of, present};
 ghost use Rattle.std.specs.Prelude.{◌≡◌, ◌≢◌, length, true, None, OnOk};
 
-use array_type::{Array, Bank, Event, Fault, Who, append_after_losses, append_entry, check_number, flush_and_mark, newly_unassigned, too_many, unassigned_roles};
+use array_type::{
+    Array, Bank, Event, Fault, Who, append_after_losses, append_entry, check_number,
+    flush_and_mark, newly_unassigned, too_many, unassigned_roles,
+};
 
 // Flushes the members, marks the array clean, unless a resync is pending, and enters this event, `Flushed` or `Stopped`.
-pub(crate) fn settle_entering<B: Bank>(array: &mut Array<B>, who: Who, event: Event) -> Result<(), Fault>
+pub(crate) fn settle_entering<B: Bank>(
+    array: &mut Array<B>,
+    who: Who,
+    event: Event,
+) -> Result<(), Fault>
     requires next { who.number ≡ next_number who.caller array.old.parts.entries }
     requires caller { who.caller ≢ 254 }
     requires event { IsSettling event }

@@ -17,7 +17,9 @@ ghost use Rattle.array_reshaping_steps.specs.array_reshaping_laws_Refusing.{firs
 ghost use Rattle.array_reshaping_steps.specs.array_reshaping_laws_Writing.{TouchesUnsure, IsWriteBarred, IsRefusedAlone, IsWriteEntered, IsWriteReplied};
 
 use crate::writing::unwritten_here;
-use array_reshaping_steps::{Bank, Event, Fault, Array, Who, append_entry, check_going, clear, open_span, relied_sector};
+use array_reshaping_steps::{
+    Array, Bank, Event, Fault, Who, append_entry, check_going, clear, open_span, relied_sector,
+};
 
 // Refuses a write of so many sectors, of which some lie in an unsure window: for what speaks against a write beside it, or for the backup.
 fn refuse_write<B: Bank>(moving: &mut Array<B>, who: Who, at: u64, count: u64) -> Result<(), Fault>
@@ -70,6 +72,7 @@ pub(crate) fn bar_write<B: Bank>(
     requires some { 0 < length from.now / 512 }
     requires short { at + length from.now / 512 < 2 ^ 63 }
     requires touches { TouchesUnsure moving.old.course.window at (at + length from.now / 512) }
+    requires active { is_reshaping moving.old.parts.members.newest ≡ true }
     ensures refused { IsErr result }
     ensures replied { IsWriteReplied (list_length moving.old.parts.members.newest) at (sectors_of from.now) who moving.old.parts.entries moving.new.parts.entries result }
     ensures entered { IsWriteEntered moving.old.course.window at (at + length from.now / 512) (sectors_of from.now) who moving.old.parts.entries moving.new.parts.entries (left_in moving.new.parts.work moving.new.parts.members moving.new.course moving.new.ahead) result }
@@ -81,6 +84,7 @@ pub(crate) fn bar_write<B: Bank>(
     ensures failed { HaveRolesFailed moving.old.parts.members moving.new.parts.members (B.faults_of moving.old.parts.bank) (B.faults_of moving.new.parts.bank) }
     ensures backup { result ≡ Err (IsRefusedWith BackupFault) → IfSome moving.old.parts.backup (λ slot. IsFaulted slot (B.faults_of moving.old.parts.bank) (B.faults_of moving.new.parts.bank)) }
     ensures course { moving.new.course ≡ moving.old.course }
+    ensures active { is_reshaping moving.new.parts.members.newest ≡ true }
     ensures given { B.given moving.new.parts.bank ≡ B.given moving.old.parts.bank }
 {
     match moving.epoch.entries.make_room(101) {

@@ -20,7 +20,11 @@ ghost use Rattle.array_reshaping_steps.specs.array_specs_Calls.{moving_world, Is
 ghost use Rattle.array_reshaping_steps.specs.array_specs_Parts.{visible_in};
 ghost use Rattle.array_reshaping_steps.specs.array_reshaping_laws_Refusing.{first_refusal, IsFirstFor};
 
-use array_reshaping_steps::{Bank, Event, Fault, Array, Sectors, Span, Who, append_after_losses, append_entry, backed_up_span, check_number, first_read_refusal_from, newly_unassigned, read_around_window, relied_sector, unassigned_roles, visible, zeros};
+use array_reshaping_steps::{
+    Array, Bank, Event, Fault, Sectors, Span, Who, append_after_losses, append_entry,
+    backed_up_span, check_number, first_read_refusal_from, newly_unassigned, read_around_window,
+    relied_sector, unassigned_roles, visible, zeros,
+};
 
 // How many bytes the sectors of this window have; none where there is none.
 fn bytes_of(hidden: Option<Span>, most: usize) -> usize
@@ -101,12 +105,7 @@ fn read_some<B: Bank>(
 /// each other by the shape of its region; what a missing member held is filled in from the others. Refusals: `PastEnd`,
 /// `TooManyMissing` where more roles are missing than a shape tolerates that places one of them, the first of these, and `NotResynced` where a resync is
 /// pending, of a missing role that has one of those others, in a stripe that isn't mended.
-pub fn read<B: Bank>(
-    moving: &mut Array<B>,
-    who: Who,
-    at: u64,
-    into: &mut [u8],
-) -> Result<(), Fault>
+pub fn read<B: Bank>(moving: &mut Array<B>, who: Who, at: u64, into: &mut [u8]) -> Result<(), Fault>
     requires next { who.number ≡ next_number who.caller moving.old.parts.entries }
     requires caller { who.caller ≢ 254 }
     requires whole { IsWhole into.old }

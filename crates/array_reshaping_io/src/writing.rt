@@ -28,7 +28,12 @@ ghost use Rattle.array_reshaping_steps.specs.array_reshaping_laws_Refusing.{firs
 ghost use Rattle.array_reshaping_steps.specs.array_reshaping_laws_Writing.{IsWindowOpen, TouchesWindow, IsWriteLacked, IsWriteBarred, IsPutEntered, IsWriteEntered, IsWriteAnswered, IsWriteReplied};
 
 use crate::barring::bar_write;
-use array_reshaping_steps::{Bank, Event, Fault, Members, Array, Refusal, Sectors, Span, Who, append_after_losses, append_entry, append_failure, check_going, finish_open, first_write_refusal_from, meets, newly_unassigned, open_span, relied_sector, unassigned_roles, uncertain_span, visible, write_list};
+use array_reshaping_steps::{
+    Array, Bank, Event, Fault, Members, Refusal, Sectors, Span, Who, append_after_losses,
+    append_entry, append_failure, check_going, finish_open, first_write_refusal_from, meets,
+    newly_unassigned, open_span, relied_sector, unassigned_roles, uncertain_span, visible,
+    write_list,
+};
 
 // Why so many sectors from one on aren't written, before any row is read, where those below the limit are visible and parity is to be relied
 // on up to sector `relied`, and in the window, if there is one.

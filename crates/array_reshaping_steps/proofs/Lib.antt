@@ -32,6 +32,7 @@ pub use Rattle.array_fixed_invariant.proofs.reshape_sb_updates_BegunPlan
 pub use Rattle.array_fixed_invariant.proofs.reshape_sb_updates_EndedPlan
 pub use Rattle.array_fixed_invariant.proofs.reshape_sb_updates_NewRoles
 pub use Rattle.array_fixed_invariant.proofs.reshape_sb_updates_Taken
+pub mod Backed
 pub mod Told
 pub use Rattle.array_fixed_invariant.proofs.history_invariant_Entered
 pub use Rattle.array_fixed_invariant.proofs.history_invariant_Tests

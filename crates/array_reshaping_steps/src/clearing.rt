@@ -12,7 +12,7 @@ ghost use Rattle.array_type.specs.array_specs_Calls.{IsCalled};
 ghost use Rattle.array_type.specs.array_reshaping_laws_Writing.{IsRefusedAlone};
 
 use array_fixed_invariant::{Fault, Refusal, Who, append_entry};
-use array_type::{Bank, Event, Array, check_going, clear_window};
+use array_type::{Array, Bank, Event, check_going, clear_window};
 
 /// Tries to make the header of an unsure window plain. It is refused `BackupFault`, and nothing is written: the backup failed when the
 /// header was written, and a slot that failed once fails again.
@@ -32,9 +32,10 @@ pub fn clear<B: Bank>(moving: &mut Array<B>, who: Who) -> Result<(), Fault>
     ensures active { is_reshaping moving.new.parts.members.newest ≡ true }
     ensures given { B.given moving.new.parts.bank ≡ B.given moving.old.parts.bank }
 {
+    let backup = moving.backup_slot();
     moving.steps -= 1;
     check_going(&moving.epoch.entries, who);
-    let Err(_) = clear_window(&mut moving.bank, moving.backup, &moving.epoch.uuid) else {
+    let Err(_) = clear_window(&mut moving.bank, backup, &moving.epoch.uuid) else {
         unreachable!()
     };
     let refusal = Refusal::BackupFault;

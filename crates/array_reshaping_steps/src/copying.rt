@@ -26,7 +26,10 @@ ghost use Rattle.array_type.specs.array_specs_Calls.{IsCalled, IsStepTaken, IsCo
 ghost use Rattle.array_type.specs.sb_safe_updates_Frame.{Stands, GoesOn};
 
 use array_fixed_invariant::{Fault, Refusal, Span, Who, append_after_losses, append_entry};
-use array_type::{Bank, Event, Members, Array, StepKind, Window, left_in_reshape, check_going, copy, final_in, newly_unassigned, stripe_to_copy, too_many, unassigned_roles};
+use array_type::{
+    Array, Bank, Event, Members, StepKind, Window, check_going, copy, final_in, left_in_reshape,
+    newly_unassigned, stripe_to_copy, too_many, unassigned_roles,
+};
 
 // The roles and the spares that were lost in a step, and why it wasn't done.
 #[derive(Clone, Copy)]

@@ -15,7 +15,10 @@ ghost use Rattle.array_type.specs.array_specs_Calls.{IsCalled, IsStepTaken, IsEn
 
 use crate::clearing::clear;
 use array_fixed_invariant::{Fault, Who, append_after_losses, append_entry};
-use array_type::{Bank, Course, Event, Members, Array, StepKind, Window, left_in_reshape, check_going, enter_next, is_window_critical, list_sectors, next_window_of, too_many};
+use array_type::{
+    Array, Bank, Course, Event, Members, StepKind, Window, check_going, enter_next,
+    is_window_critical, left_in_reshape, list_sectors, next_window_of, too_many,
+};
 
 // Whether a window is unsure, and no more roles are missing than the shapes in force tolerate.
 fn is_barred(members: &Members, course: &Course) -> bool
@@ -55,6 +58,7 @@ fn enter_sure<B: Bank>(moving: &mut Array<B>, who: Who) -> Result<(), Fault>
     ensures active { is_reshaping moving.new.parts.members.newest ≡ true }
     ensures given { B.given moving.new.parts.bank ≡ B.given moving.old.parts.bank }
 {
+    let backup = moving.backup_slot();
     moving.steps -= 1;
     check_going(&moving.epoch.entries, who);
     if let Some(refusal) = too_many(&moving.members) {
@@ -70,7 +74,7 @@ fn enter_sure<B: Bank>(moving: &mut Array<B>, who: Who) -> Result<(), Fault>
     let tried = enter_next(
         &mut moving.members,
         &mut moving.bank,
-        moving.backup,
+        backup,
         &moving.epoch.uuid,
         &span,
         sectioned,

@@ -31,7 +31,10 @@ ghost use Rattle.array_type.specs.array_reshaping_laws_Writing.{IsWindowOpen, st
 ghost use Rattle.array_type.specs.sb_safe_updates_Frame.{Stands, GoesOn};
 
 use array_fixed_invariant::{Fault, Refusal, Span, Who, append_after_losses, append_entry};
-use array_type::{Bank, Course, Event, Members, Array, StepKind, Window, left_in_reshape, check_going, final_in, finish_window, newly_unassigned, too_many, unassigned_roles};
+use array_type::{
+    Array, Bank, Course, Event, Members, StepKind, Window, check_going, final_in, finish_window,
+    left_in_reshape, newly_unassigned, too_many, unassigned_roles,
+};
 
 // The roles and the spares that were lost as a window was finished, how many of its stripes are copied, and why it isn't.
 #[derive(Clone, Copy)]

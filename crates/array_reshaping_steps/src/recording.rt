@@ -11,7 +11,10 @@ ghost use Rattle.array_type.specs.array_specs_Parts.{left_in};
 ghost use Rattle.array_type.specs.array_specs_Calls.{IsCalled, IsStepTaken, IsRecordDue};
 
 use array_fixed_invariant::{Fault, Who, append_after_losses, append_entry};
-use array_type::{Bank, Course, Event, Array, StepKind, Window, left_in_reshape, check_going, newly_unassigned, record, too_many, unassigned_roles};
+use array_type::{
+    Array, Bank, Course, Event, StepKind, Window, check_going, left_in_reshape, newly_unassigned,
+    record, too_many, unassigned_roles,
+};
 
 /// A step of the reshape: the open window, whose stripes are all copied, is recorded. Refusals: `TooManyMissing`. It takes no
 /// memory.

@@ -16,9 +16,11 @@ ghost use Rattle.array_type.specs.array_specs_Parts.{left_in};
 ghost use Rattle.array_type.specs.array_specs_Calls.{moving_world, IsStepTaken};
 ghost use Rattle.array_type.specs.array_reshaping_laws_Resyncing.{IsResyncDue, IsResyncEndDue, IsResyncCalled, AreRowsGood};
 
-use array_type::{Bank, Event, Array, StepKind, left_in_reshape, check_going};
+use array_fixed_invariant::{
+    Fault, Who, append_after_losses, append_entry, newly_unassigned, too_many, unassigned_roles,
+};
 use array_reshaping_laws::{first_resync_refusal, flush_and_mark, resync_list};
-use array_fixed_invariant::{Fault, Who, append_after_losses, append_entry, newly_unassigned, too_many, unassigned_roles};
+use array_type::{Array, Bank, Event, StepKind, check_going, left_in_reshape};
 
 /// A step of the pending resync, while no window is entered: makes the parity of its next stripe fit the data, by the shape of its
 /// region. Every role that has data by that shape must be there. Refusals: `TooManyMissing` and `NotResynced`. It takes no memory.

@@ -11,13 +11,13 @@ ghost use Rattle.array_type.specs.array_specs_Calls.{IsStepTaken, IsNextUnsure};
 ghost use Rattle.array_type.specs.array_reshaping_laws_Resyncing.{IsResyncCalled};
 ghost use Rattle.array_type.specs.array_reshaping_laws_Steps.{kind_of, resync_behind, IsMarkedBehind, IsStepCaused};
 
-use crate::resyncing::{resync_stripe, end_resync};
 use crate::copying::copy_stripe;
 use crate::entering::enter_window;
 use crate::recording::record_window;
+use crate::resyncing::{end_resync, resync_stripe};
 use crate::zeroing::zero_stripe;
 use array_fixed_invariant::{Fault, Who};
-use array_type::{Bank, Due, Array, due_step};
+use array_type::{Array, Bank, Due, due_step};
 
 /// The step that is due, but for the end of the reshape: a stripe of the entered window is copied, or it is recorded; of a pending
 /// resync the next stripe is mended, or it ends; the next window is entered, or a stripe behind the list is zeroed. Refusals: `TooManyMissing`, `NotResynced` where a stripe is to be mended, and `BackupFault` where a window is to be

@@ -11,7 +11,10 @@ ghost use Rattle.array_type.specs.array_specs_Parts.{left_in};
 ghost use Rattle.array_type.specs.array_specs_Calls.{IsCalled, IsStepTaken, IsZeroDue};
 
 use array_fixed_invariant::{Fault, Who, append_after_losses, append_entry};
-use array_type::{Bank, Event, Array, StepKind, left_in_reshape, check_going, final_in, newly_unassigned, stripe_to_zero, too_many, unassigned_roles, zero};
+use array_type::{
+    Array, Bank, Event, StepKind, check_going, final_in, left_in_reshape, newly_unassigned,
+    stripe_to_zero, too_many, unassigned_roles, zero,
+};
 
 /// A step of the reshape, which has gone through the list, where no resync is pending: the next stripe behind it is zeroed. Refusals: `TooManyMissing`. It
 /// takes no memory.

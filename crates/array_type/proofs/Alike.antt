@@ -1,6 +1,6 @@
 -- What an array keeps alike, whether a reshape is active in it or not.
-use Rattle.std.proofs.Common.{◌≡◌, ℕ, ◌*◌, ◌<◌, ◌≤◌, Bool, true, false, List, length, Option, is_some}
-use Rattle.std.specs.Prelude.{IsSome, ◌||◌}
+use Rattle.std.proofs.Common.{◌≡◌, ℕ, ◌*◌, ◌<◌, ◌≤◌, Bool, false, List, length, Option}
+use Rattle.std.specs.Prelude.{IsSome}
 use Rattle.array_state.specs.raid_types_Shapes.{has_slot, tolerance, tolerance_of}
 use Rattle.sb_election.specs.bank_Given.{Given, sizes}
 use Rattle.sb_election.specs.bank_the_Operation.{Operation}
@@ -9,7 +9,6 @@ use Rattle.sb_election.specs.sb_specs_Reading.{Scope, is_reshaping, is_clean, sh
 use Rattle.array_parts.specs.history_the_Entry.{Entry}
 use Rattle.array_parts.specs.history_Flat.{length_of, limit_of}
 use Rattle.array_parts.specs.history_Legal.{level_at}
-use Rattle.array_parts.specs.history_OneShape.{is_unsettled}
 use Rattle.array_parts.specs.array_members_the_Work.{Work}
 use Rattle.array_parts.specs.array_members_Placed.{IsPlaced}
 use Rattle.array_parts.specs.array_members_Rebuilding.{AreSparesFree}

@@ -17,15 +17,8 @@ pub use array_parts::{
     reshape_left,
 };
 pub use array_reshaping_laws::{
-    Course, Due, Finished, backed_up_span, begin, clear_window, copy, due_step, enter_next,
-    final_in, finish, finish_window, first_read_refusal_from, first_write_refusal_from,
-    is_window_critical, list_length, list_sectors, meets, next_window_of, open_span,
-    read_around_window, record, relied_sector, stripe_to_copy, stripe_to_zero, uncertain_span,
-    visible, write_list, zero,
-};
-pub use array_state::{
-    Fault, Refusal, Role, Sectors, Shape, Who, add_member, append_after_losses, append_entry,
-    append_failure, append_lost, bear, check_number, free_number, look_at,
+    Course, Due, clear_window, copy, due_step, enter_next, final_in, finish_window,
+    is_window_critical, list_sectors, next_window_of, record, stripe_to_copy, stripe_to_zero, zero,
 };
 pub use array_state::absent::append_absent;
 pub use array_state::adding::{spare_for, unaddable};
@@ -34,6 +27,10 @@ pub use array_state::holders::holds_role;
 pub use array_state::refusing::{are_synced, first_resync_refusal};
 pub use array_state::room::{Room, room_for, zeros};
 pub use array_state::work::{found_numbers, set_rebuilt};
-pub use sb_election::{Bank, Members, contains, with, without};
+pub use array_state::{
+    Fault, Refusal, Role, Sectors, Shape, Who, add_member, append_after_losses, append_entry,
+    append_failure, append_lost, bear, check_number, free_number, look_at,
+};
 pub use choosing::first_spare;
+pub use sb_election::{Bank, Members, contains, with, without};
 pub use state::{Array, check_going, left_at_rest, left_in_reshape};

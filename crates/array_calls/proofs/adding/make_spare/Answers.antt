@@ -170,11 +170,11 @@ spare_for-sb-requires-clause-free g c =
 pub add_member-lost-requires-clause-stands : goal.add_member-lost-requires-clause-stands
 add_member-lost-requires-clause-stands g c =
     record {
-  slots = subst (λ (b : Given). b.slots ≤ 32) (sym c.look_at.ensures.given) (alike c.array.invariant).kept.slots;
-  placed = subst (λ (b : Given). IsPlaced b c.array.inside.members) (sym c.look_at.ensures.given) (alike c.array.invariant).kept.members_are.placed;
-  unlost = (alike c.array.invariant).kept.members_are.unlost;
-  free = subst (λ (b : Given). AreSparesFree b c.array.inside.members) (sym c.look_at.ensures.given) (alike c.array.invariant).kept.members_are.free;
-}
+      slots = subst (λ (b : Given). b.slots ≤ 32) (sym c.look_at.ensures.given) (alike c.array.invariant).kept.slots;
+      placed = subst (λ (b : Given). IsPlaced b c.array.inside.members) (sym c.look_at.ensures.given) (alike c.array.invariant).kept.members_are.placed;
+      unlost = (alike c.array.invariant).kept.members_are.unlost;
+      free = subst (λ (b : Given). AreSparesFree b c.array.inside.members) (sym c.look_at.ensures.given) (alike c.array.invariant).kept.members_are.free;
+    }
 
 pub add_member-lost-requires-clause-slot : goal.add_member-lost-requires-clause-slot
 add_member-lost-requires-clause-slot g c =

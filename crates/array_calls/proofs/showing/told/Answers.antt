@@ -1,4 +1,4 @@
-use Rattle.std.proofs.Common.{sym, ◌∙◌, ap, arith}
+use Rattle.std.proofs.Common.{◌∙◌, ap, arith}
 use Rattle.sb_election.specs.sb_specs_Reading.{is_reshaping, is_clean, shape_of, target_of}
 use Rattle.sb_election.proofs.sb_specs_ValidFields.{few-roles}
 use Rattle.std.specs.Prelude.{if◌then◌else◌}

@@ -1,4 +1,4 @@
-use Rattle.std.proofs.Common.{◌≡◌, ◌+◌, ◌/◌, List, [], length, refl, sym, ◌∙◌, ap, subst, arith, append-nil, inl, Some}
+use Rattle.std.proofs.Common.{◌≡◌, ◌+◌, ◌/◌, List, [], length, refl, sym, ◌∙◌, ap, subst, arith, append-nil, inl}
 use Rattle.std.proofs.lemmas.List.Elements.{All-nil}
 use Rattle.array_reshaping_steps.specs.raid_types_Sectors.{sectors_of}
 use Rattle.array_reshaping_steps.proofs.raid_types_SectorLaws.{length-sectors_of}
@@ -96,7 +96,7 @@ pub returns-in-Err-clause-unchanged : goal.returns-in-Err-clause-unchanged
 returns-in-Err-clause-unchanged g c =
     let a = c.moving.inside in
     (λ i. record {
-      parts = record { bank = a.bank; uuid = a.epoch.uuid; given = a.epoch.given; first = a.epoch.first; last = a.epoch.last; entries = c.make_room.ensures.items i; backup = Some a.backup; members = a.members; work = a.work; steps = a.steps };
+      parts = record { bank = a.bank; uuid = a.epoch.uuid; given = a.epoch.given; first = a.epoch.first; last = a.epoch.last; entries = c.make_room.ensures.items i; backup = a.backup; members = a.members; work = a.work; steps = a.steps };
       course = a.course;
       ahead = a.ahead;
       limit = a.limit;
@@ -114,3 +114,12 @@ returns-in-Err-clause-entered g c = c.make_room.ensures.items ∙ ap (λ p. p.pa
 pub returns-in-Err-clause-failed : goal.returns-in-Err-clause-failed
 returns-in-Err-clause-failed g c =
     subst (λ p. HaveRolesFailed p.parts.members c.moving.inside.members (g.B.Bank.faults_of p.parts.bank) (g.B.Bank.faults_of c.moving.inside.bank)) c.moving.view_is (λ role slot held. inl held)
+
+pub returns-in-Err-clause-active : goal.returns-in-Err-clause-active
+returns-in-Err-clause-active g c = ap (λ p. is_reshaping p.parts.members.newest) c.moving.view_is ∙ c.requires.active
+
+pub returns-clause-active : goal.returns-clause-active
+returns-clause-active g c = c.refuse_write.ensures.active
+
+pub refuse_write-requires-clause-active : goal.refuse_write-requires-clause-active
+refuse_write-requires-clause-active g c = ap (λ p. is_reshaping p.parts.members.newest) c.moving.view_is ∙ c.requires.active

@@ -1,4 +1,4 @@
-use Rattle.std.proofs.Common.{inl, ◌≡◌, ◌+◌, ◌/◌, ◌≤◌, ◌++◌, ◌∷◌, [], ℕ, Option, Some, Result, Ok, Err, List, length, refl, sym, ◌∙◌, ap, subst, arith, append-nil}
+use Rattle.std.proofs.Common.{inl, ◌≡◌, ◌+◌, ◌/◌, ◌≤◌, ◌++◌, ◌∷◌, [], ℕ, Option, Result, Ok, Err, List, length, refl, sym, ◌∙◌, ap, subst, arith, append-nil}
 use Rattle.std.specs.Prelude.{OnOk}
 use Rattle.std.proofs.lemmas.List.Elements.{All-nil}
 use Rattle.array_reshaping_steps.specs.raid_types_the_Span.{Span}
@@ -61,7 +61,7 @@ invariant_of-moving-in-Some g c =
     let was = (c.moving.invariant.moves (ap (λ p. is_reshaping p.parts.members.newest) c.moving.view_is ∙ c.requires.active)).1 in
     let a = c.moving.inside in
     let given = g.B.Bank.given a.bank in
-    let scope = scope_in given a.epoch.uuid a.epoch.given (Some a.backup) in
+    let scope = scope_in given a.epoch.uuid a.epoch.given a.backup in
     let number : c.args.who.number ≡ next_number c.args.who.caller a.epoch.entries.items = c.requires.next ∙ ap (λ p. next_number c.args.who.caller p.parts.entries) (sym c.moving.view_is) in
     let tape = g.B.Bank.tape a.bank in
     let end = c.ops-end.result in
@@ -75,7 +75,7 @@ invariant_of-moving-in-Some g c =
     c.args.who end (Refused refusal) was.kept (begins-going a.epoch.entries.items c.args.who number) (not_254 c.args.who.caller c.requires.caller) c.ops-end.ensures.count (quiet-refusal refusal) (λ told is. is)
     (first-right was.kept was.limited hidden relied c.args.at (c.args.at + count) refusal c.relied_sector-relied.ensures.value why) in
     ready (entries_of c.args.who end (Refused refusal ∷ [])) was (grows-none (λ t. refl)) (shapes-same a.members.newest) kept
-    refl (never-falls _) (alone-keeps c.args.who end (Refused refusal) (λ n. refl) (λ limit. refl)) (λ none whole. whole) refl (scope-same given (Some a.backup) refl c.append_entry.ensures.uuid c.append_entry.ensures.given) c.append_entry.ensures.first c.make_room.ensures.items c.append_entry.ensures.items
+    refl (never-falls _) (alone-keeps c.args.who end (Refused refusal) (λ n. refl) (λ limit. refl)) (λ none whole. whole) refl (scope-same given a.backup refl c.append_entry.ensures.uuid c.append_entry.ensures.given) c.append_entry.ensures.first c.make_room.ensures.items c.append_entry.ensures.items
     (omega (arith, c.append_entry.ensures.room, c.in-Ok-make_room.ensures.ok)))
 
 pub returns-in-Some-clause-answered : goal.returns-in-Some-clause-answered
@@ -97,7 +97,7 @@ returns-in-Some-clause-called g c =
     let was = (alike c.moving.invariant) in
     let a = c.moving.inside in
     let given = g.B.Bank.given a.bank in
-    let scope = scope_in given a.epoch.uuid a.epoch.given (Some a.backup) in
+    let scope = scope_in given a.epoch.uuid a.epoch.given a.backup in
     let end = c.ops-end.result in
     let refusal = c.in-Some.refusal in
     called-over g.B.Bank.given g.B.Bank.tape g.B.Bank.faults_of c.moving.view_is (record {
@@ -116,7 +116,7 @@ returns-in-Some-clause-called g c =
           backup = refl;
           shape = refl;
           size = refl;
-          list = list-same given scope a.epoch.first refl (scope-same given (Some a.backup) refl c.append_entry.ensures.uuid c.append_entry.ensures.given) c.append_entry.ensures.first (grows-none (λ t. refl)) (λ t. (was.kept.recorded t).begun);
+          list = list-same given scope a.epoch.first refl (scope-same given a.backup refl c.append_entry.ensures.uuid c.append_entry.ensures.given) c.append_entry.ensures.first (grows-none (λ t. refl)) (λ t. (was.kept.recorded t).begun);
         };
         final = refl;
         backward = refl;
@@ -143,7 +143,7 @@ invariant_of-moving-then-asked-eq0 g c =
     let was = (c.moving.invariant.moves (ap (λ p. is_reshaping p.parts.members.newest) c.moving.view_is ∙ c.requires.active)).1 in
     let a = c.moving.inside in
     let given = g.B.Bank.given a.bank in
-    let scope = scope_in given a.epoch.uuid a.epoch.given (Some a.backup) in
+    let scope = scope_in given a.epoch.uuid a.epoch.given a.backup in
     let number : c.args.who.number ≡ next_number c.args.who.caller a.epoch.entries.items = c.requires.next ∙ ap (λ p. next_number c.args.who.caller p.parts.entries) (sym c.moving.view_is) in
     let tape = g.B.Bank.tape a.bank in
     let end = c.ops-end-then-asked-eq0.result in
@@ -156,7 +156,7 @@ invariant_of-moving-then-asked-eq0 g c =
     c.args.who end (Read c.args.at body) was.kept (begins-going a.epoch.entries.items c.args.who number) (not_254 c.args.who.caller c.requires.caller) c.ops-end-then-asked-eq0.ensures.count (read-quiet c.args.at body) (λ told is. is)
     (none-read was.kept was.limited c.args.at body none within) in
     ready (entries_of c.args.who end (Read c.args.at body ∷ [])) was (grows-none (λ t. refl)) (shapes-same a.members.newest) kept
-    refl (never-falls _) (alone-keeps c.args.who end (Read c.args.at body) (λ n. refl) (λ limit. refl)) (λ none whole. whole) refl (scope-same given (Some a.backup) refl c.append_entry-then-asked-eq0.ensures.uuid c.append_entry-then-asked-eq0.ensures.given)
+    refl (never-falls _) (alone-keeps c.args.who end (Read c.args.at body) (λ n. refl) (λ limit. refl)) (λ none whole. whole) refl (scope-same given a.backup refl c.append_entry-then-asked-eq0.ensures.uuid c.append_entry-then-asked-eq0.ensures.given)
     c.append_entry-then-asked-eq0.ensures.first c.make_room.ensures.items c.append_entry-then-asked-eq0.ensures.items
     (omega (arith, c.append_entry-then-asked-eq0.ensures.room, c.in-Ok-make_room.ensures.ok)))
 
@@ -180,7 +180,7 @@ returns-then-asked-eq0-clause-called g c =
     let was = (alike c.moving.invariant) in
     let a = c.moving.inside in
     let given = g.B.Bank.given a.bank in
-    let scope = scope_in given a.epoch.uuid a.epoch.given (Some a.backup) in
+    let scope = scope_in given a.epoch.uuid a.epoch.given a.backup in
     let end = c.ops-end-then-asked-eq0.result in
     let event = Read c.args.at c.from_bytes-body.result in
     called-over g.B.Bank.given g.B.Bank.tape g.B.Bank.faults_of c.moving.view_is (record {
@@ -200,7 +200,7 @@ returns-then-asked-eq0-clause-called g c =
           backup = refl;
           shape = refl;
           size = refl;
-          list = list-same given scope a.epoch.first refl (scope-same given (Some a.backup) refl c.append_entry-then-asked-eq0.ensures.uuid c.append_entry-then-asked-eq0.ensures.given) c.append_entry-then-asked-eq0.ensures.first
+          list = list-same given scope a.epoch.first refl (scope-same given a.backup refl c.append_entry-then-asked-eq0.ensures.uuid c.append_entry-then-asked-eq0.ensures.given) c.append_entry-then-asked-eq0.ensures.first
               (grows-none (λ t. refl)) (λ t. (was.kept.recorded t).begun);
         };
         final = refl;
@@ -271,7 +271,7 @@ returns-clause-holds g c =
     let given = g.B.Bank.given a.bank in
     let new = c.read_some.new.moving in
     rw (← c.moving.view_is) (subst (λ (l : List Entry). OnOk c.read_some.result (g.B.Bank.tells → IsReliable (moving_world (g.B.Bank.given new.parts.bank) (g.B.Bank.tape new.parts.bank) new) new.parts.entries
-    → AreSectors (now (opening_list (world_in given (g.B.Bank.tape a.bank) (scope_in given a.epoch.uuid a.epoch.given (Some a.backup)) a.epoch.first)) l) c.args.at c.read_some.new.into))
+    → AreSectors (now (opening_list (world_in given (g.B.Bank.tape a.bank) (scope_in given a.epoch.uuid a.epoch.given a.backup) a.epoch.first)) l) c.args.at c.read_some.new.into))
     c.make_room.ensures.items c.read_some.ensures.holds)
 
 pub returns-clause-unchanged : goal.returns-clause-unchanged
@@ -375,7 +375,7 @@ pub returns-in-Err-make_room-clause-unchanged : goal.returns-in-Err-make_room-cl
 returns-in-Err-make_room-clause-unchanged g c =
     let a = c.moving.inside in
     (λ i. record {
-      parts = record { bank = a.bank; uuid = a.epoch.uuid; given = a.epoch.given; first = a.epoch.first; last = a.epoch.last; entries = c.make_room.ensures.items i; backup = Some a.backup; members = a.members; work = a.work; steps = a.steps };
+      parts = record { bank = a.bank; uuid = a.epoch.uuid; given = a.epoch.given; first = a.epoch.first; last = a.epoch.last; entries = c.make_room.ensures.items i; backup = a.backup; members = a.members; work = a.work; steps = a.steps };
       course = a.course;
       ahead = a.ahead;
       limit = a.limit;
@@ -453,4 +453,7 @@ pub returns-clause-active : goal.returns-clause-active
 returns-clause-active g c = c.read_some.ensures.active
 
 pub returns-in-Err-clause-active : goal.returns-in-Err-clause-active
-returns-in-Err-clause-active g c = (ap (λ p. is_reshaping p.parts.members.newest) c.moving.view_is ∙ c.requires.active)
+returns-in-Err-clause-active g c = c.requires.active
+
+pub read_some-requires-clause-active : goal.read_some-requires-clause-active
+read_some-requires-clause-active g c = ap (λ p. is_reshaping p.parts.members.newest) c.moving.view_is ∙ c.requires.active

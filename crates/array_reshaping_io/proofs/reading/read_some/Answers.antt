@@ -1,4 +1,4 @@
-use Rattle.std.proofs.Common.{◌≡◌, ◌+◌, ◌-◌, ◌*◌, ◌/◌, ◌<◌, ◌≤◌, ◌++◌, ◌∷◌, [], ℕ, Option, Some, None, List, length, take, drop, refl, sym, ◌∙◌, ap, subst, arith}
+use Rattle.std.proofs.Common.{◌≡◌, ◌+◌, ◌-◌, ◌*◌, ◌/◌, ◌<◌, ◌≤◌, ◌++◌, ◌∷◌, [], ℕ, Option, None, List, length, take, drop, refl, sym, ◌∙◌, ap, subst, arith}
 use Rattle.std.specs.Prelude.{IfSome}
 use Rattle.std.specs.Vec.{with_items}
 use Rattle.array_reshaping_steps.specs.raid_types_the_Span.{Span}
@@ -99,7 +99,7 @@ invariant_of-moving g c =
     (subst (λ (n : ℕ). IsRefusalOf (visible_size a.members a.limit) (c.args.at + length c.args.into.now / 512) (IsUnreadAround (hidden_in a.course.window) n c.args.at (c.args.at + length c.args.into.now / 512)) a.members None) (sym c.relied_sector-relied.ensures.value)
     (subst (λ p. IsRefusalOf (visible_in p) (c.args.at + length c.args.into.now / 512) (IsUnreadAround (hidden_in p.course.window) (relied_sector p.parts.members.newest p.parts.work.resync) c.args.at (c.args.at + length c.args.into.now / 512)) p.parts.members None) (sym c.moving.view_is) c.requires.fine)) in
     let given = g.B.Bank.given a.bank in
-    let scope = scope_in given a.epoch.uuid a.epoch.given (Some a.backup) in
+    let scope = scope_in given a.epoch.uuid a.epoch.given a.backup in
     let number : c.args.who.number ≡ next_number c.args.who.caller a.epoch.entries.items = c.requires.next ∙ ap (λ p. next_number c.args.who.caller p.parts.entries) (sym c.moving.view_is) in
     let m = c.read_around_window-fetched.new.members in
     let did = c.read_around_window-fetched.ensures in
@@ -140,7 +140,7 @@ invariant_of-moving g c =
     (subst (λ (left : ℕ). IsMoving g.B.Bank.tells given tape' scope a.epoch.first (a.epoch.entries.items ++ entries_of c.args.who end (losses_of roles spares ++ Refused refusal ∷ [])) m (bears a.work) a.work.resync a.course (bytes_in a.course.window a.window.items) left)
     (sym (left-moved given a.members m a.work.resync a.course a.ahead did.keeps.moved)) (unread-moves was.kept was.limited (read-live c.backed_up_span-hidden.result c.relied_sector-relied.result c.args.at (c.args.at + count) was.kept fine.1 (read-some count c.args.at (λ zero. let some = c.requires.some in omega (arith, some, zero)))) c.args.who end roles spares (begins-going a.epoch.entries.items c.args.who number) (not_254 c.args.who.caller c.requires.caller) c.ops-end.ensures.count did.keeps.bank.grows named hidden relied c.args.at (c.args.at + count) refusal c.relied_sector-relied.ensures.value within why))
     refl did.keeps.bank.counts (behind-keeps c.args.who end roles spares (Refused refusal) (λ n. refl) (λ limit. refl))
-    (behind-whole tape' scope a.epoch.first a.epoch.entries.items c.args.who end roles spares (Refused refusal) did.keeps.moved (missing-since roles did.keeps.moved since.vacant)) did.keeps.bank.same (scope-same given (Some a.backup) did.keeps.bank.same c.append_after_losses.ensures.uuid c.append_after_losses.ensures.given) c.append_after_losses.ensures.first refl
+    (behind-whole tape' scope a.epoch.first a.epoch.entries.items c.args.who end roles spares (Refused refusal) did.keeps.moved (missing-since roles did.keeps.moved since.vacant)) did.keeps.bank.same (scope-same given a.backup did.keeps.bank.same c.append_after_losses.ensures.uuid c.append_after_losses.ensures.given) c.append_after_losses.ensures.first refl
     c.append_after_losses.ensures.items
     (room-after-49 a.steps a.epoch.entries.room c.append_after_losses.new.epoch.entries.room was.room_left c.append_after_losses.ensures.room steps)))
 
@@ -153,7 +153,7 @@ returns-in-Some-clause-answered g c =
     (subst (λ (n : ℕ). IsRefusalOf (visible_size a.members a.limit) (c.args.at + length c.args.into.now / 512) (IsUnreadAround (hidden_in a.course.window) n c.args.at (c.args.at + length c.args.into.now / 512)) a.members None) (sym c.relied_sector-relied.ensures.value)
     (subst (λ p. IsRefusalOf (visible_in p) (c.args.at + length c.args.into.now / 512) (IsUnreadAround (hidden_in p.course.window) (relied_sector p.parts.members.newest p.parts.work.resync) c.args.at (c.args.at + length c.args.into.now / 512)) p.parts.members None) (sym c.moving.view_is) c.requires.fine)) in
     let given = g.B.Bank.given a.bank in
-    let scope = scope_in given a.epoch.uuid a.epoch.given (Some a.backup) in
+    let scope = scope_in given a.epoch.uuid a.epoch.given a.backup in
     let number : c.args.who.number ≡ next_number c.args.who.caller a.epoch.entries.items = c.requires.next ∙ ap (λ p. next_number c.args.who.caller p.parts.entries) (sym c.moving.view_is) in
     let m = c.read_around_window-fetched.new.members in
     let did = c.read_around_window-fetched.ensures in
@@ -192,7 +192,7 @@ returns-in-Some-clause-caused g c =
     (subst (λ (n : ℕ). IsRefusalOf (visible_size a.members a.limit) (c.args.at + length c.args.into.now / 512) (IsUnreadAround (hidden_in a.course.window) n c.args.at (c.args.at + length c.args.into.now / 512)) a.members None) (sym c.relied_sector-relied.ensures.value)
     (subst (λ p. IsRefusalOf (visible_in p) (c.args.at + length c.args.into.now / 512) (IsUnreadAround (hidden_in p.course.window) (relied_sector p.parts.members.newest p.parts.work.resync) c.args.at (c.args.at + length c.args.into.now / 512)) p.parts.members None) (sym c.moving.view_is) c.requires.fine)) in
     let given = g.B.Bank.given a.bank in
-    let scope = scope_in given a.epoch.uuid a.epoch.given (Some a.backup) in
+    let scope = scope_in given a.epoch.uuid a.epoch.given a.backup in
     let number : c.args.who.number ≡ next_number c.args.who.caller a.epoch.entries.items = c.requires.next ∙ ap (λ p. next_number c.args.who.caller p.parts.entries) (sym c.moving.view_is) in
     let m = c.read_around_window-fetched.new.members in
     let did = c.read_around_window-fetched.ensures in
@@ -227,7 +227,7 @@ returns-in-Some-clause-called g c =
     let was = (c.moving.invariant.moves (ap (λ p. is_reshaping p.parts.members.newest) c.moving.view_is ∙ c.requires.active)).1 in
     let a = c.moving.inside in
     let given = g.B.Bank.given a.bank in
-    let scope = scope_in given a.epoch.uuid a.epoch.given (Some a.backup) in
+    let scope = scope_in given a.epoch.uuid a.epoch.given a.backup in
     let number : c.args.who.number ≡ next_number c.args.who.caller a.epoch.entries.items = c.requires.next ∙ ap (λ p. next_number c.args.who.caller p.parts.entries) (sym c.moving.view_is) in
     let m = c.read_around_window-fetched.new.members in
     let did = c.read_around_window-fetched.ensures in
@@ -275,7 +275,7 @@ invariant_of-moving-2 g c =
     (subst (λ (n : ℕ). IsRefusalOf (visible_size a.members a.limit) (c.args.at + length c.args.into.now / 512) (IsUnreadAround (hidden_in a.course.window) n c.args.at (c.args.at + length c.args.into.now / 512)) a.members None) (sym c.relied_sector-relied.ensures.value)
     (subst (λ p. IsRefusalOf (visible_in p) (c.args.at + length c.args.into.now / 512) (IsUnreadAround (hidden_in p.course.window) (relied_sector p.parts.members.newest p.parts.work.resync) c.args.at (c.args.at + length c.args.into.now / 512)) p.parts.members None) (sym c.moving.view_is) c.requires.fine)) in
     let given = g.B.Bank.given a.bank in
-    let scope = scope_in given a.epoch.uuid a.epoch.given (Some a.backup) in
+    let scope = scope_in given a.epoch.uuid a.epoch.given a.backup in
     let number : c.args.who.number ≡ next_number c.args.who.caller a.epoch.entries.items = c.requires.next ∙ ap (λ p. next_number c.args.who.caller p.parts.entries) (sym c.moving.view_is) in
     let m = c.read_around_window-fetched.new.members in
     let did = c.read_around_window-fetched.ensures in
@@ -317,7 +317,7 @@ invariant_of-moving-2 g c =
     (subst (λ (left : ℕ). IsMoving g.B.Bank.tells given tape' scope a.epoch.first (a.epoch.entries.items ++ entries_of c.args.who end (losses_of roles spares ++ Read c.args.at (sectors_of bytes) ∷ [])) m (bears a.work) a.work.resync a.course (bytes_in a.course.window a.window.items) left)
     (sym (left-moved given a.members m a.work.resync a.course a.ahead did.keeps.moved)) (read-moves was.kept was.limited (read-live c.backed_up_span-hidden.result c.relied_sector-relied.result c.args.at (c.args.at + count) was.kept fine.1 (read-some count c.args.at (λ zero. let some = c.requires.some in omega (arith, some, zero)))) c.args.who end roles spares (begins-going a.epoch.entries.items c.args.who number) (not_254 c.args.who.caller c.requires.caller) c.ops-end.ensures.count did.keeps.bank.grows named c.relied_sector-relied.result c.args.at bytes c.relied_sector-relied.ensures.value does within holds))
     refl did.keeps.bank.counts (behind-keeps c.args.who end roles spares (Read c.args.at (sectors_of bytes)) (λ n. refl) (λ limit. refl))
-    (behind-whole tape' scope a.epoch.first a.epoch.entries.items c.args.who end roles spares (Read c.args.at (sectors_of bytes)) did.keeps.moved (missing-since roles did.keeps.moved since.vacant)) did.keeps.bank.same (scope-same given (Some a.backup) did.keeps.bank.same c.append_after_losses-2.ensures.uuid c.append_after_losses-2.ensures.given) c.append_after_losses-2.ensures.first refl
+    (behind-whole tape' scope a.epoch.first a.epoch.entries.items c.args.who end roles spares (Read c.args.at (sectors_of bytes)) did.keeps.moved (missing-since roles did.keeps.moved since.vacant)) did.keeps.bank.same (scope-same given a.backup did.keeps.bank.same c.append_after_losses-2.ensures.uuid c.append_after_losses-2.ensures.given) c.append_after_losses-2.ensures.first refl
     (c.append_after_losses-2.ensures.items ∙ ap (λ (b : List Sector). a.epoch.entries.items ++ entries_of c.args.who end (losses_of roles spares ++ Read c.args.at b ∷ [])) (c.from_bytes-body.ensures ∙ ap sectors_of whole))
     (room-after-49 a.steps a.epoch.entries.room c.append_after_losses-2.new.epoch.entries.room was.room_left c.append_after_losses-2.ensures.room steps)))
 
@@ -326,7 +326,7 @@ returns-clause-answered g c =
     let was = (c.moving.invariant.moves (ap (λ p. is_reshaping p.parts.members.newest) c.moving.view_is ∙ c.requires.active)).1 in
     let a = c.moving.inside in
     let given = g.B.Bank.given a.bank in
-    let scope = scope_in given a.epoch.uuid a.epoch.given (Some a.backup) in
+    let scope = scope_in given a.epoch.uuid a.epoch.given a.backup in
     let number : c.args.who.number ≡ next_number c.args.who.caller a.epoch.entries.items = c.requires.next ∙ ap (λ p. next_number c.args.who.caller p.parts.entries) (sym c.moving.view_is) in
     let m = c.read_around_window-fetched.new.members in
     let did = c.read_around_window-fetched.ensures in
@@ -361,7 +361,7 @@ returns-clause-holds g c =
     (subst (λ (n : ℕ). IsRefusalOf (visible_size a.members a.limit) (c.args.at + length c.args.into.now / 512) (IsUnreadAround (hidden_in a.course.window) n c.args.at (c.args.at + length c.args.into.now / 512)) a.members None) (sym c.relied_sector-relied.ensures.value)
     (subst (λ p. IsRefusalOf (visible_in p) (c.args.at + length c.args.into.now / 512) (IsUnreadAround (hidden_in p.course.window) (relied_sector p.parts.members.newest p.parts.work.resync) c.args.at (c.args.at + length c.args.into.now / 512)) p.parts.members None) (sym c.moving.view_is) c.requires.fine)) in
     let given = g.B.Bank.given a.bank in
-    let scope = scope_in given a.epoch.uuid a.epoch.given (Some a.backup) in
+    let scope = scope_in given a.epoch.uuid a.epoch.given a.backup in
     let number : c.args.who.number ≡ next_number c.args.who.caller a.epoch.entries.items = c.requires.next ∙ ap (λ p. next_number c.args.who.caller p.parts.entries) (sym c.moving.view_is) in
     let m = c.read_around_window-fetched.new.members in
     let did = c.read_around_window-fetched.ensures in
@@ -406,8 +406,8 @@ returns-clause-holds g c =
     ap (λ (l : List ℕ). take 512 (drop (512 * i) l)) copied ∙ sym (row-sector bytes i)
     ∙ holds-read was.kept was.limited (read-live c.backed_up_span-hidden.result c.relied_sector-relied.result c.args.at (c.args.at + count) was.kept fine.1 (read-some count c.args.at (λ zero. let some = c.requires.some in omega (arith, some, zero)))) c.args.who end roles spares (begins-going a.epoch.entries.items c.args.who number) (not_254 c.args.who.caller c.requires.caller) c.ops-end.ensures.count did.keeps.bank.grows named c.relied_sector-relied.result c.args.at bytes c.relied_sector-relied.ensures.value does within holds t
     (subst (λ (w : World). IsReliable w (a.epoch.entries.items ++ entries_of c.args.who end (losses_of roles spares ++ Read c.args.at (sectors_of bytes) ∷ [])))
-    (λ k. world_in (did.keeps.bank.same k) tape' (scope-same given (Some a.backup) did.keeps.bank.same c.append_after_losses-2.ensures.uuid c.append_after_losses-2.ensures.given k) (c.append_after_losses-2.ensures.first k))
-    (subst (λ (l : List Entry). IsReliable (world_in (g.B.Bank.given c.read_around_window-fetched.new.bank) tape' (scope_in (g.B.Bank.given c.read_around_window-fetched.new.bank) c.append_after_losses-2.new.epoch.uuid c.append_after_losses-2.new.epoch.given (Some a.backup)) c.append_after_losses-2.new.epoch.first) l) items right)) i (subst (λ (l : List ℕ). i < length l / 512) copied lt)
+    (λ k. world_in (did.keeps.bank.same k) tape' (scope-same given a.backup did.keeps.bank.same c.append_after_losses-2.ensures.uuid c.append_after_losses-2.ensures.given k) (c.append_after_losses-2.ensures.first k))
+    (subst (λ (l : List Entry). IsReliable (world_in (g.B.Bank.given c.read_around_window-fetched.new.bank) tape' (scope_in (g.B.Bank.given c.read_around_window-fetched.new.bank) c.append_after_losses-2.new.epoch.uuid c.append_after_losses-2.new.epoch.given a.backup) c.append_after_losses-2.new.epoch.first) l) items right)) i (subst (λ (l : List ℕ). i < length l / 512) copied lt)
     ∙ ap (λ p. now (opening_list (moving_world (g.B.Bank.given p.parts.bank) (g.B.Bank.tape p.parts.bank) p)) p.parts.entries (c.args.at + i)) c.moving.view_is
 
 pub returns-clause-caused : goal.returns-clause-caused
@@ -418,7 +418,7 @@ returns-clause-called g c =
     let was = (c.moving.invariant.moves (ap (λ p. is_reshaping p.parts.members.newest) c.moving.view_is ∙ c.requires.active)).1 in
     let a = c.moving.inside in
     let given = g.B.Bank.given a.bank in
-    let scope = scope_in given a.epoch.uuid a.epoch.given (Some a.backup) in
+    let scope = scope_in given a.epoch.uuid a.epoch.given a.backup in
     let number : c.args.who.number ≡ next_number c.args.who.caller a.epoch.entries.items = c.requires.next ∙ ap (λ p. next_number c.args.who.caller p.parts.entries) (sym c.moving.view_is) in
     let m = c.read_around_window-fetched.new.members in
     let did = c.read_around_window-fetched.ensures in
@@ -456,11 +456,11 @@ read_around_window-fetched-requires-clause-into g c =
 pub read_around_window-fetched-requires-clause-stands : goal.read_around_window-fetched-requires-clause-stands
 read_around_window-fetched-requires-clause-stands g c =
     record {
-  slots = (alike c.moving.invariant).kept.slots;
-  placed = (alike c.moving.invariant).kept.members_are.placed;
-  unlost = (alike c.moving.invariant).kept.members_are.unlost;
-  free = (alike c.moving.invariant).kept.members_are.free;
-}
+      slots = (alike c.moving.invariant).kept.slots;
+      placed = (alike c.moving.invariant).kept.members_are.placed;
+      unlost = (alike c.moving.invariant).kept.members_are.unlost;
+      free = (alike c.moving.invariant).kept.members_are.free;
+    }
 
 pub append_after_losses-requires-clause-room : goal.append_after_losses-requires-clause-room
 append_after_losses-requires-clause-room g c =

@@ -59,7 +59,7 @@ returns-clause-backup g c =
     c.write_sure.ensures.caused is
 
 pub returns-then-meets-clause-active : goal.returns-then-meets-clause-active
-returns-then-meets-clause-active g c = c.requires.active
+returns-then-meets-clause-active g c = c.bar_write.ensures.active
 
 pub returns-clause-active : goal.returns-clause-active
 returns-clause-active g c = c.write_sure.ensures.active

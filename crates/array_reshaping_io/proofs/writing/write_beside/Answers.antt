@@ -1,4 +1,4 @@
-use Rattle.std.proofs.Common.{inl, ◌≡◌, ◌≤◌, ◌<◌, ◌+◌, ◌/◌, ℕ, false, List, [], ◌∷◌, ◌++◌, length, Some, refl, sym, ◌∙◌, ap, subst, arith}
+use Rattle.std.proofs.Common.{inl, ◌≡◌, ◌≤◌, ◌<◌, ◌+◌, ◌/◌, ℕ, false, List, [], ◌∷◌, ◌++◌, length, refl, sym, ◌∙◌, ap, subst, arith}
 use Rattle.array_reshaping_steps.specs.raid_types_Sectors.{Sector, sectors_of}
 use Rattle.array_reshaping_steps.specs.raid_types_the_Refusal.{Refusal}
 use Rattle.array_reshaping_steps.specs.sb_specs_Reading.{list_length, is_reshaping}
@@ -50,7 +50,7 @@ invariant_of-moving g c =
     let was = (c.moving.invariant.moves (ap (λ p. is_reshaping p.parts.members.newest) c.moving.view_is ∙ c.requires.active)).1 in
     let a = c.moving.inside in
     let given = g.B.Bank.given a.bank in
-    let scope = scope_in given a.epoch.uuid a.epoch.given (Some a.backup) in
+    let scope = scope_in given a.epoch.uuid a.epoch.given a.backup in
     let goes : IsCallGoing a.epoch.entries.items c.args.who = subst (λ p. IsCallGoing p.parts.entries c.args.who) (sym c.moving.view_is) c.requires.open in
     let steps : 1 ≤ a.steps = subst (λ p. 1 ≤ p.parts.steps) (sym c.moving.view_is) c.requires.room in
     let to = c.args.at + length c.args.from.now / 512 in
@@ -61,7 +61,7 @@ invariant_of-moving g c =
     c.args.who end (Refused refusal) was.kept goes (not_254 c.args.who.caller c.requires.caller) c.ops-end.ensures.count (quiet-refusal refusal) (λ told is. is)
     (λ t right. first-right was.kept was.limited c.args.past c.relied_sector-relied.result c.args.at to refusal c.relied_sector-relied.ensures.value c.in-Some.ensures.why t right) in
     ready (entries_of c.args.who end (Refused refusal ∷ [])) was (grows-none (λ t. refl)) (shapes-same a.members.newest) kept
-    refl (never-falls _) (alone-keeps c.args.who end (Refused refusal) (λ n. refl) (λ limit. refl)) (λ none whole. whole) refl (scope-same given (Some a.backup) refl c.append_entry.ensures.uuid c.append_entry.ensures.given) c.append_entry.ensures.first refl c.append_entry.ensures.items
+    refl (never-falls _) (alone-keeps c.args.who end (Refused refusal) (λ n. refl) (λ limit. refl)) (λ none whole. whole) refl (scope-same given a.backup refl c.append_entry.ensures.uuid c.append_entry.ensures.given) c.append_entry.ensures.first refl c.append_entry.ensures.items
     (room-after-1 a.steps a.epoch.entries.room c.append_entry.new.epoch.entries.room was.room_left c.append_entry.ensures.room steps))
 
 pub returns-in-Some-clause-entered : goal.returns-in-Some-clause-entered
@@ -132,7 +132,7 @@ invariant_of-moving-in-Some-refusal g c =
     let here = was.kept.members_are in
     let a = c.moving.inside in
     let given = g.B.Bank.given a.bank in
-    let scope = scope_in given a.epoch.uuid a.epoch.given (Some a.backup) in
+    let scope = scope_in given a.epoch.uuid a.epoch.given a.backup in
     let goes : IsCallGoing a.epoch.entries.items c.args.who = subst (λ p. IsCallGoing p.parts.entries c.args.who) (sym c.moving.view_is) c.requires.open in
     let steps : 1 ≤ a.steps = subst (λ p. 1 ≤ p.parts.steps) (sym c.moving.view_is) c.requires.room in
     let m = c.write_list-done.new.members in
@@ -178,7 +178,7 @@ invariant_of-moving-in-Some-refusal g c =
     with-rooms did.rows did.buffer did.far_rows did.far_buffer
     (ready (entries_of c.args.who end (failure_events roles spares begun at (sectors_of from) refusal)) was did.keeps.bank.grows (shapes-moved given a.members m did.keeps.moved) kept
     refl did.keeps.bank.counts (failure-keeps c.args.who end roles spares begun at (sectors_of from) refusal)
-    (failure-whole tape' scope a.epoch.first a.epoch.entries.items c.args.who end roles spares begun at (sectors_of from) refusal did.keeps.moved (missing-since roles did.keeps.moved since.vacant)) did.keeps.bank.same (scope-same given (Some a.backup) did.keeps.bank.same c.append_failure.ensures.uuid c.append_failure.ensures.given) c.append_failure.ensures.first refl
+    (failure-whole tape' scope a.epoch.first a.epoch.entries.items c.args.who end roles spares begun at (sectors_of from) refusal did.keeps.moved (missing-since roles did.keeps.moved since.vacant)) did.keeps.bank.same (scope-same given a.backup did.keeps.bank.same c.append_failure.ensures.uuid c.append_failure.ensures.given) c.append_failure.ensures.first refl
     (c.append_failure.ensures.items ∙ ap (λ (b : List Sector). a.epoch.entries.items ++ entries_of c.args.who end (failure_events roles spares begun at b refusal)) c.requires.body)
     (room-after-50 a.steps a.epoch.entries.room c.append_failure.new.epoch.entries.room was.room_left c.append_failure.ensures.room steps)))
 
@@ -247,7 +247,7 @@ invariant_of-moving-2 g c =
     let here = was.kept.members_are in
     let a = c.moving.inside in
     let given = g.B.Bank.given a.bank in
-    let scope = scope_in given a.epoch.uuid a.epoch.given (Some a.backup) in
+    let scope = scope_in given a.epoch.uuid a.epoch.given a.backup in
     let goes : IsCallGoing a.epoch.entries.items c.args.who = subst (λ p. IsCallGoing p.parts.entries c.args.who) (sym c.moving.view_is) c.requires.open in
     let steps : 1 ≤ a.steps = subst (λ p. 1 ≤ p.parts.steps) (sym c.moving.view_is) c.requires.room in
     let m = c.write_list-done.new.members in
@@ -288,7 +288,7 @@ invariant_of-moving-2 g c =
     with-rooms did.rows did.buffer did.far_rows did.far_buffer
     (ready (entries_of c.args.who end (losses_of roles spares ++ Wrote at (sectors_of from) ∷ [])) was did.keeps.bank.grows (shapes-moved given a.members m did.keeps.moved) kept
     refl did.keeps.bank.counts (behind-keeps c.args.who end roles spares (Wrote at (sectors_of from)) (λ n. refl) (λ limit. refl))
-    (behind-whole tape' scope a.epoch.first a.epoch.entries.items c.args.who end roles spares (Wrote at (sectors_of from)) did.keeps.moved (missing-since roles did.keeps.moved since.vacant)) did.keeps.bank.same (scope-same given (Some a.backup) did.keeps.bank.same c.append_after_losses.ensures.uuid c.append_after_losses.ensures.given) c.append_after_losses.ensures.first refl
+    (behind-whole tape' scope a.epoch.first a.epoch.entries.items c.args.who end roles spares (Wrote at (sectors_of from)) did.keeps.moved (missing-since roles did.keeps.moved since.vacant)) did.keeps.bank.same (scope-same given a.backup did.keeps.bank.same c.append_after_losses.ensures.uuid c.append_after_losses.ensures.given) c.append_after_losses.ensures.first refl
     (c.append_after_losses.ensures.items ∙ ap (λ (b : List Sector). a.epoch.entries.items ++ entries_of c.args.who end (losses_of roles spares ++ Wrote at b ∷ [])) c.requires.body)
     (room-after-49 a.steps a.epoch.entries.room c.append_after_losses.new.epoch.entries.room was.room_left c.append_after_losses.ensures.room steps)))
 
@@ -374,11 +374,11 @@ returns-clause-first g c = rw (← c.moving.view_is) (first-none _ _ c.in_defaul
 pub write_list-done-requires-clause-stands : goal.write_list-done-requires-clause-stands
 write_list-done-requires-clause-stands g c =
     record {
-  slots = (alike c.moving.invariant).kept.slots;
-  placed = (alike c.moving.invariant).kept.members_are.placed;
-  unlost = (alike c.moving.invariant).kept.members_are.unlost;
-  free = (alike c.moving.invariant).kept.members_are.free;
-}
+      slots = (alike c.moving.invariant).kept.slots;
+      placed = (alike c.moving.invariant).kept.members_are.placed;
+      unlost = (alike c.moving.invariant).kept.members_are.unlost;
+      free = (alike c.moving.invariant).kept.members_are.free;
+    }
 
 pub write_list-done-requires-clause-rows : goal.write_list-done-requires-clause-rows
 write_list-done-requires-clause-rows g c = (alike c.moving.invariant).rows_fit

@@ -337,4 +337,13 @@ pub returns-clause-active : goal.returns-clause-active
 returns-clause-active g c = c.write_beside-2.ensures.active
 
 pub returns-in-Err-clause-active : goal.returns-in-Err-clause-active
-returns-in-Err-clause-active g c = (ap (λ p. is_reshaping p.parts.members.newest) c.moving.view_is ∙ c.requires.active)
+returns-in-Err-clause-active g c = c.requires.active
+
+pub write_beside-requires-clause-active : goal.write_beside-requires-clause-active
+write_beside-requires-clause-active g c = ap (λ p. is_reshaping p.parts.members.newest) c.moving.view_is ∙ c.requires.active
+
+pub finish_for-requires-clause-active : goal.finish_for-requires-clause-active
+finish_for-requires-clause-active g c = ap (λ p. is_reshaping p.parts.members.newest) c.moving.view_is ∙ c.requires.active
+
+pub write_beside-requires-2-clause-active : goal.write_beside-requires-2-clause-active
+write_beside-requires-2-clause-active g c = c.finish_for.ensures.active

@@ -1,4 +1,4 @@
-use Rattle.std.proofs.Common.{None, ◌≡◌, ◌≤◌, inl, inr, ℕ, ◌-◌, ◌*◌, List, [], ◌∷◌, ◌++◌, length, take, Some, refl, sym, ◌∙◌, ap, subst, arith, le_of_eq}
+use Rattle.std.proofs.Common.{None, ◌≡◌, ◌<◌, ◌≤◌, inl, inr, ℕ, ◌-◌, ◌*◌, List, [], ◌∷◌, ◌++◌, length, take, Some, refl, sym, ◌∙◌, ap, subst, arith, le_of_eq}
 use Rattle.std.specs.Vec.{with_items}
 use Rattle.array_fixed_invariant.specs.bank_Tape.{disk}
 use Rattle.array_fixed_invariant.specs.raid_types_the_Refusal.{Refusal}
@@ -10,6 +10,7 @@ use Rattle.array_fixed_invariant.specs.history_the_StepKind_TheVariants.{Entered
 use Rattle.array_fixed_invariant.specs.history_Plain.{entries_of}
 use Rattle.array_fixed_invariant.specs.array_members_Lacking.{AreTooMany}
 use Rattle.array_fixed_invariant.specs.array_members_Numbers.{bears}
+use Rattle.array_fixed_invariant.specs.sb_safe_updates_Unused.{IsUnused}
 use Rattle.array_fixed_invariant.proofs.array_members_LackingLaws.{never-both}
 use Rattle.array_fixed_invariant.proofs.array_members_MovedLaws.{grows-none, moved-same}
 use Rattle.array_fixed_invariant.specs.history_append_Losing.{losses_of}
@@ -31,7 +32,6 @@ use Rattle.array_type.specs.array_specs_Parts.{left_in}
 use Rattle.array_type.specs.array_reshaping_laws_Ready.{bytes_in}
 use Rattle.array_type.proofs.array_specs_Called.{not_254, called, alone-lossless, risen-told}
 use Rattle.array_type.proofs.array_reshaping_laws_Kept.{ready, ready-moved, shapes-same, shapes-moved, behind-keeps, behind-whole, with-buffer, written-whole}
-use Rattle.array_type.proofs.array_reshaping_laws_EnterLaws.{backup-for}
 use Rattle.array_type.proofs.array_reshaping_laws_BarredLaws.{closed-of}
 use Rattle.array_type.proofs.array_reshaping_laws_Entered.{course_in, IsNextTried, when-some, when-none, enter-refused, enter-left, enter-done}
 use Rattle.array_type.specs.history_Stands.{reach_of}
@@ -39,6 +39,7 @@ use Rattle.array_fixed_invariant.specs.reshape_request_Left.{phases_of}
 use Rattle.array_type.proofs.StepLaws.{one-fewer, same-some, room-behind, wide-for, scratch-for, never-some, taken-behind, under-way-moved, zeroed-moved, sound-moved, entered-right}
 use Rattle.array_type.proofs.array_specs_Lengths.{alone-keeps}
 use Rattle.array_type.proofs.Alike.{alike, goes-on}
+use Rattle.array_reshaping_steps.proofs.Backed.{of-slot, to-slot, backed-for, faulted}
 use Rattle.array_reshaping_steps.proofs.entering.enter_sure.Goals as goal
 
 -- ---- the members lack too many
@@ -49,7 +50,7 @@ invariant_of-moving g c =
     let was = (c.moving.invariant.moves (ap (λ p. is_reshaping p.parts.members.newest) c.moving.view_is ∙ c.requires.active)).1 in
     let a = c.moving.inside in
     let given = g.B.Bank.given a.bank in
-    let scope = scope_in given a.epoch.uuid a.epoch.given (Some a.backup) in
+    let scope = scope_in given a.epoch.uuid a.epoch.given a.backup in
     let goes : IsCallGoing a.epoch.entries.items c.args.who = subst (λ p. IsCallGoing p.parts.entries c.args.who) (sym c.moving.view_is) c.requires.open in
     let steps : 1 ≤ a.steps = subst (λ p. 1 ≤ p.parts.steps) (sym c.moving.view_is) c.requires.room in
     let tape = g.B.Bank.tape a.bank in
@@ -59,7 +60,7 @@ invariant_of-moving g c =
     c.args.who end (Refused refusal) was.kept goes (not_254 c.args.who.caller c.requires.caller) c.ops-end.ensures.count (quiet-refusal refusal) (λ told is. is)
     (λ t right. refused-right (world_in given tape scope a.epoch.first) a.epoch.entries.items given a.members was.kept.members_are.placed (was.kept.gone t right) (was.kept.levelled t right) refusal c.in-Some.ensures) in
     ready (entries_of c.args.who end (Refused refusal ∷ [])) was (grows-none (λ t. refl)) (shapes-same a.members.newest) kept
-    refl (λ slot. omega arith) (alone-keeps c.args.who end (Refused refusal) (λ n. refl) (λ limit. refl)) (λ none whole. whole) refl (scope-same given (Some a.backup) refl c.append_entry.ensures.uuid c.append_entry.ensures.given) c.append_entry.ensures.first refl c.append_entry.ensures.items
+    refl (λ slot. omega arith) (alone-keeps c.args.who end (Refused refusal) (λ n. refl) (λ limit. refl)) (λ none whole. whole) refl (scope-same given a.backup refl c.append_entry.ensures.uuid c.append_entry.ensures.given) c.append_entry.ensures.first refl c.append_entry.ensures.items
     (let had = was.room_left in let room = c.append_entry.ensures.room in omega (arith, room, had, steps)))
 
 pub returns-in-Some-clause-called : goal.returns-in-Some-clause-called
@@ -86,12 +87,12 @@ returns-in-Some-clause-entered g c =
 pub enter_next-tried-requires-clause-slot : goal.enter_next-tried-requires-clause-slot
 enter_next-tried-requires-clause-slot g c =
     let a = c.moving.inside in
-    (backup-for (g.B.Bank.given a.bank) a.epoch.uuid a.epoch.given a.backup a.members c.in-Some-next_window_of.span (c.moving.invariant.moves (ap (λ p. is_reshaping p.parts.members.newest) c.moving.view_is ∙ c.requires.active)).1.kept.members_are (sym c.in-Some-next_window_of.ensures.value)).slot
+    (backed-for a.backup c.backup_slot-backup.result (ap (λ p. p.parts.backup) c.moving.view_is ∙ c.backup_slot-backup.ensures) (g.B.Bank.given a.bank) a.epoch.uuid a.epoch.given a.members c.in-Some-next_window_of.span (c.moving.invariant.moves (ap (λ p. is_reshaping p.parts.members.newest) c.moving.view_is ∙ c.requires.active)).1.kept.members_are (sym c.in-Some-next_window_of.ensures.value)).slot
 
 pub enter_next-tried-requires-clause-within : goal.enter_next-tried-requires-clause-within
 enter_next-tried-requires-clause-within g c =
     let a = c.moving.inside in
-    (backup-for (g.B.Bank.given a.bank) a.epoch.uuid a.epoch.given a.backup a.members c.in-Some-next_window_of.span (c.moving.invariant.moves (ap (λ p. is_reshaping p.parts.members.newest) c.moving.view_is ∙ c.requires.active)).1.kept.members_are (sym c.in-Some-next_window_of.ensures.value)).within
+    (backed-for a.backup c.backup_slot-backup.result (ap (λ p. p.parts.backup) c.moving.view_is ∙ c.backup_slot-backup.ensures) (g.B.Bank.given a.bank) a.epoch.uuid a.epoch.given a.members c.in-Some-next_window_of.span (c.moving.invariant.moves (ap (λ p. is_reshaping p.parts.members.newest) c.moving.view_is ∙ c.requires.active)).1.kept.members_are (sym c.in-Some-next_window_of.ensures.value)).within
 
 -- ---- it is refused
 
@@ -101,7 +102,7 @@ invariant_of-moving-in-Some-refusal g c =
     let was = (c.moving.invariant.moves (ap (λ p. is_reshaping p.parts.members.newest) c.moving.view_is ∙ c.requires.active)).1 in
     let a = c.moving.inside in
     let given = g.B.Bank.given a.bank in
-    let scope = scope_in given a.epoch.uuid a.epoch.given (Some a.backup) in
+    let scope = scope_in given a.epoch.uuid a.epoch.given a.backup in
     let tape = g.B.Bank.tape a.bank in
     let tape' = g.B.Bank.tape c.enter_next-tried.new.bank in
     let m = c.enter_next-tried.new.members in
@@ -114,7 +115,8 @@ invariant_of-moving-in-Some-refusal g c =
     let at : next_window a.members.newest ≡ Some span = sym c.in-Some-next_window_of.ensures.value in
     let goes : IsCallGoing a.epoch.entries.items c.args.who = subst (λ p. IsCallGoing p.parts.entries c.args.who) (sym c.moving.view_is) c.requires.open in
     let steps : 1 ≤ a.steps = subst (λ p. 1 ≤ p.parts.steps) (sym c.moving.view_is) c.requires.room in
-    let its = (backup-for given a.epoch.uuid a.epoch.given a.backup a.members span was.kept.members_are at).is in
+    let slot_is = ap (λ p. p.parts.backup) c.moving.view_is ∙ c.backup_slot-backup.ensures in
+    let its = (backed-for a.backup c.backup_slot-backup.result slot_is given a.epoch.uuid a.epoch.given a.members span was.kept.members_are at).is in
     let stored = λ (t : g.B.Bank.tells) (on : OpensOnCourse (world_in given tape scope a.epoch.first)). subst (λ (k : Course). IsStored scope a.members k.window (bytes_in k.window a.window.items) (disk given.start tape)) shut (was.kept.stored t on) in
     let written = c.enter_next-tried.new.window in
     let next : IsNextTried g.B.Bank.tells given tape tape' scope a.epoch.first a.members m tried.window (take (512 * (span.hi - span.lo)) written) tried.roles = record {
@@ -124,8 +126,8 @@ invariant_of-moving-in-Some-refusal g c =
       rise = risen-told did.rise;
       kept = did.kept;
       has = did.has;
-      stored = λ t on. did.stored t scope its (stored t on).section (stored t on).headers;
-      safe = λ t on told list room gone unclean stands filled allowed before. did.safe t (world_in given tape scope a.epoch.first) told list room gone unclean its (stored t on).section stands filled allowed before;
+      stored = λ t on. did.stored t scope (rw slot_is its) (stored t on).section (stored t on).headers;
+      safe = λ t on told list room gone unclean stands filled allowed before. did.safe t (world_in given tape scope a.epoch.first) told list room gone unclean (rw slot_is its) (stored t on).section stands filled allowed before;
     } in
     let refusal = c.in-Some-refusal.refusal in
     let end = c.ops-end-2.result in
@@ -136,10 +138,10 @@ invariant_of-moving-in-Some-refusal g c =
     (elim (when-some _ _ tried.refusal refusal c.in-Some-refusal.is did.window) [ inl none ↦ inl none | inr unsure ↦ inr unsure.0 ])
     refusal (elim (when-some _ _ tried.refusal refusal c.in-Some-refusal.is did.refused) [ inl many ↦ inl many | inr fault ↦ inr fault.0 ])) in
     with-buffer (let len = (with_items a.buffer c.enter_next-tried.new.scratch).ok.0 in let ok = a.buffer.ok.0 in omega (arith, len, ok, was.buffer_fits))
-    (ready-moved (entries_of c.args.who end (losses_of tried.roles tried.spares ++ Refused refusal ∷ [])) was did.bank.grows (shapes-moved given a.members m did.moved) kept (λ span is. inr (did.dead span is))
+    (ready-moved (entries_of c.args.who end (losses_of tried.roles tried.spares ++ Refused refusal ∷ [])) was did.bank.grows (shapes-moved given a.members m did.moved) kept (λ span is. inr (to-slot a.backup c.backup_slot-backup.result slot_is (λ (slot : ℕ). 0 < g.B.Bank.faults_of c.enter_next-tried.new.bank slot) (did.dead span is)))
     (let len = (with_items a.window written).ok.0 in let ok = a.window.ok.0 in omega (arith, len, ok)) did.bank.counts (behind-keeps c.args.who end tried.roles tried.spares (Refused refusal) (λ n. refl) (λ limit. refl))
     (behind-whole tape' scope a.epoch.first a.epoch.entries.items c.args.who end tried.roles tried.spares (Refused refusal) did.moved (missing-since tried.roles did.moved did.since.vacant))
-    did.bank.same (scope-same given (Some a.backup) did.bank.same c.append_after_losses.ensures.uuid c.append_after_losses.ensures.given) c.append_after_losses.ensures.first refl c.append_after_losses.ensures.items
+    did.bank.same (scope-same given a.backup did.bank.same c.append_after_losses.ensures.uuid c.append_after_losses.ensures.given) c.append_after_losses.ensures.first refl c.append_after_losses.ensures.items
     (let had = was.room_left in let room = c.append_after_losses.ensures.room in omega (arith, room, had, steps))))
 
 pub returns-in-Some-refusal-clause-called : goal.returns-in-Some-refusal-clause-called
@@ -162,7 +164,11 @@ returns-in-Some-refusal-clause-called g c =
 
 pub returns-in-Some-refusal-clause-caused : goal.returns-in-Some-refusal-clause-caused
 returns-in-Some-refusal-clause-caused g c =
-    rw (← c.moving.view_is) (when-some _ _ c.enter_next-tried.result.refusal c.in-Some-refusal.refusal c.in-Some-refusal.is c.enter_next-tried.ensures.refused)
+    let a = c.moving.inside in
+    rw (← c.moving.view_is) (elim (when-some _ _ c.enter_next-tried.result.refusal c.in-Some-refusal.refusal c.in-Some-refusal.is c.enter_next-tried.ensures.refused) [
+      | inl many ↦ inl many
+      | inr fault ↦ inr (fault.0, faulted a.backup c.backup_slot-backup.result (ap (λ p. p.parts.backup) c.moving.view_is ∙ c.backup_slot-backup.ensures) (g.B.Bank.faults_of a.bank) (g.B.Bank.faults_of c.enter_next-tried.new.bank) fault.1)
+    ])
 
 pub returns-in-Some-refusal-clause-course : goal.returns-in-Some-refusal-clause-course
 returns-in-Some-refusal-clause-course g c =
@@ -186,7 +192,7 @@ invariant_of-moving-2 g c =
     let was = (c.moving.invariant.moves (ap (λ p. is_reshaping p.parts.members.newest) c.moving.view_is ∙ c.requires.active)).1 in
     let a = c.moving.inside in
     let given = g.B.Bank.given a.bank in
-    let scope = scope_in given a.epoch.uuid a.epoch.given (Some a.backup) in
+    let scope = scope_in given a.epoch.uuid a.epoch.given a.backup in
     let tape = g.B.Bank.tape a.bank in
     let tape' = g.B.Bank.tape c.enter_next-tried.new.bank in
     let m = c.enter_next-tried.new.members in
@@ -199,7 +205,8 @@ invariant_of-moving-2 g c =
     let at : next_window a.members.newest ≡ Some span = sym c.in-Some-next_window_of.ensures.value in
     let goes : IsCallGoing a.epoch.entries.items c.args.who = subst (λ p. IsCallGoing p.parts.entries c.args.who) (sym c.moving.view_is) c.requires.open in
     let steps : 1 ≤ a.steps = subst (λ p. 1 ≤ p.parts.steps) (sym c.moving.view_is) c.requires.room in
-    let its = (backup-for given a.epoch.uuid a.epoch.given a.backup a.members span was.kept.members_are at).is in
+    let slot_is = ap (λ p. p.parts.backup) c.moving.view_is ∙ c.backup_slot-backup.ensures in
+    let its = (backed-for a.backup c.backup_slot-backup.result slot_is given a.epoch.uuid a.epoch.given a.members span was.kept.members_are at).is in
     let stored = λ (t : g.B.Bank.tells) (on : OpensOnCourse (world_in given tape scope a.epoch.first)). subst (λ (k : Course). IsStored scope a.members k.window (bytes_in k.window a.window.items) (disk given.start tape)) shut (was.kept.stored t on) in
     let written = c.enter_next-tried.new.window in
     let next : IsNextTried g.B.Bank.tells given tape tape' scope a.epoch.first a.members m tried.window (take (512 * (span.hi - span.lo)) written) tried.roles = record {
@@ -209,8 +216,8 @@ invariant_of-moving-2 g c =
       rise = risen-told did.rise;
       kept = did.kept;
       has = did.has;
-      stored = λ t on. did.stored t scope its (stored t on).section (stored t on).headers;
-      safe = λ t on told list room gone unclean stands filled allowed before. did.safe t (world_in given tape scope a.epoch.first) told list room gone unclean its (stored t on).section stands filled allowed before;
+      stored = λ t on. did.stored t scope (rw slot_is its) (stored t on).section (stored t on).headers;
+      safe = λ t on told list room gone unclean stands filled allowed before. did.safe t (world_in given tape scope a.epoch.first) told list room gone unclean (rw slot_is its) (stored t on).section stands filled allowed before;
     } in
     let left = c.left_in_reshape-left.result in
     let end = c.ops-end-2.result in
@@ -220,10 +227,10 @@ invariant_of-moving-2 g c =
     (enter-done a.course a.ahead tried.window span written c.args.who c.ops-end-2.result tried.roles tried.spares shut at was.kept synced was.full c.in_default.ensures goes c.requires.caller c.ops-end-2.ensures.count did.bank.grows next
     c.is_window_critical-sectioned.result (when-none _ _ tried.refusal c.in_default-refusal.is did.window) (λ critical. c.is_window_critical-sectioned.ensures ∙ critical) left c.left_in_reshape-left.ensures) in
     with-buffer (let len = (with_items a.buffer c.enter_next-tried.new.scratch).ok.0 in let ok = a.buffer.ok.0 in omega (arith, len, ok, was.buffer_fits))
-    (ready-moved (entries_of c.args.who end (losses_of tried.roles tried.spares ++ Step EntersWindow left ∷ [])) was did.bank.grows (shapes-moved given a.members m did.moved) kept (λ span is. inr (did.dead span is))
+    (ready-moved (entries_of c.args.who end (losses_of tried.roles tried.spares ++ Step EntersWindow left ∷ [])) was did.bank.grows (shapes-moved given a.members m did.moved) kept (λ span is. inr (to-slot a.backup c.backup_slot-backup.result slot_is (λ (slot : ℕ). 0 < g.B.Bank.faults_of c.enter_next-tried.new.bank slot) (did.dead span is)))
     (let len = (with_items a.window written).ok.0 in let ok = a.window.ok.0 in omega (arith, len, ok)) did.bank.counts (behind-keeps c.args.who end tried.roles tried.spares (Step EntersWindow left) (λ n. refl) (λ limit. refl))
     (behind-whole tape' scope a.epoch.first a.epoch.entries.items c.args.who end tried.roles tried.spares (Step EntersWindow left) did.moved (missing-since tried.roles did.moved did.since.vacant))
-    did.bank.same (scope-same given (Some a.backup) did.bank.same c.append_after_losses-2.ensures.uuid c.append_after_losses-2.ensures.given) c.append_after_losses-2.ensures.first refl c.append_after_losses-2.ensures.items
+    did.bank.same (scope-same given a.backup did.bank.same c.append_after_losses-2.ensures.uuid c.append_after_losses-2.ensures.given) c.append_after_losses-2.ensures.first refl c.append_after_losses-2.ensures.items
     (let had = was.room_left in let room = c.append_after_losses-2.ensures.room in omega (arith, room, had, steps))))
 
 pub returns-clause-called : goal.returns-clause-called
@@ -247,16 +254,16 @@ returns-clause-called g c =
 pub returns-clause-caused : goal.returns-clause-caused
 returns-clause-caused g c =
     rw (← c.moving.view_is) (
-  λ refusal many. never-both c.moving.inside.members refusal c.in_default.ensures many,
-  λ refusal many. never-both c.enter_next-tried.new.members refusal (when-none _ _ c.enter_next-tried.result.refusal c.in_default-refusal.is c.enter_next-tried.ensures.refused) many,
-)
+      λ refusal many. never-both c.moving.inside.members refusal c.in_default.ensures many,
+      λ refusal many. never-both c.enter_next-tried.new.members refusal (when-none _ _ c.enter_next-tried.result.refusal c.in_default-refusal.is c.enter_next-tried.ensures.refused) many,
+    )
 
 pub returns-clause-left : goal.returns-clause-left
 returns-clause-left g c =
     let was = (c.moving.invariant.moves (ap (λ p. is_reshaping p.parts.members.newest) c.moving.view_is ∙ c.requires.active)).1 in
     let a = c.moving.inside in
     let given = g.B.Bank.given a.bank in
-    let scope = scope_in given a.epoch.uuid a.epoch.given (Some a.backup) in
+    let scope = scope_in given a.epoch.uuid a.epoch.given a.backup in
     let tape = g.B.Bank.tape a.bank in
     let tape' = g.B.Bank.tape c.enter_next-tried.new.bank in
     let m = c.enter_next-tried.new.members in
@@ -269,7 +276,8 @@ returns-clause-left g c =
     let at : next_window a.members.newest ≡ Some span = sym c.in-Some-next_window_of.ensures.value in
     let goes : IsCallGoing a.epoch.entries.items c.args.who = subst (λ p. IsCallGoing p.parts.entries c.args.who) (sym c.moving.view_is) c.requires.open in
     let steps : 1 ≤ a.steps = subst (λ p. 1 ≤ p.parts.steps) (sym c.moving.view_is) c.requires.room in
-    let its = (backup-for given a.epoch.uuid a.epoch.given a.backup a.members span was.kept.members_are at).is in
+    let slot_is = ap (λ p. p.parts.backup) c.moving.view_is ∙ c.backup_slot-backup.ensures in
+    let its = (backed-for a.backup c.backup_slot-backup.result slot_is given a.epoch.uuid a.epoch.given a.members span was.kept.members_are at).is in
     let stored = λ (t : g.B.Bank.tells) (on : OpensOnCourse (world_in given tape scope a.epoch.first)). subst (λ (k : Course). IsStored scope a.members k.window (bytes_in k.window a.window.items) (disk given.start tape)) shut (was.kept.stored t on) in
     let written = c.enter_next-tried.new.window in
     let next : IsNextTried g.B.Bank.tells given tape tape' scope a.epoch.first a.members m tried.window (take (512 * (span.hi - span.lo)) written) tried.roles = record {
@@ -279,8 +287,8 @@ returns-clause-left g c =
       rise = risen-told did.rise;
       kept = did.kept;
       has = did.has;
-      stored = λ t on. did.stored t scope its (stored t on).section (stored t on).headers;
-      safe = λ t on told list room gone unclean stands filled allowed before. did.safe t (world_in given tape scope a.epoch.first) told list room gone unclean its (stored t on).section stands filled allowed before;
+      stored = λ t on. did.stored t scope (rw slot_is its) (stored t on).section (stored t on).headers;
+      safe = λ t on told list room gone unclean stands filled allowed before. did.safe t (world_in given tape scope a.epoch.first) told list room gone unclean (rw slot_is its) (stored t on).section stands filled allowed before;
     } in
     rw (← c.moving.view_is) (enter-left a.course a.ahead tried.window span written c.args.who c.ops-end-2.result tried.roles tried.spares shut at was.kept synced was.full c.in_default.ensures goes c.requires.caller
     c.ops-end-2.ensures.count did.bank.grows next c.is_window_critical-sectioned.result (when-none _ _ tried.refusal c.in_default-refusal.is did.window))
@@ -334,18 +342,18 @@ is_window_critical-sectioned-requires-clause-next g c = sym c.in-Some-next_windo
 pub enter_next-tried-requires-clause-stands : goal.enter_next-tried-requires-clause-stands
 enter_next-tried-requires-clause-stands g c =
     record {
-  slots = (alike c.moving.invariant).kept.slots;
-  placed = (alike c.moving.invariant).kept.members_are.placed;
-  unlost = (alike c.moving.invariant).kept.members_are.unlost;
-  free = (alike c.moving.invariant).kept.members_are.free;
-}
+      slots = (alike c.moving.invariant).kept.slots;
+      placed = (alike c.moving.invariant).kept.members_are.placed;
+      unlost = (alike c.moving.invariant).kept.members_are.unlost;
+      free = (alike c.moving.invariant).kept.members_are.free;
+    }
 
 pub enter_next-tried-requires-clause-next : goal.enter_next-tried-requires-clause-next
 enter_next-tried-requires-clause-next g c = sym c.in-Some-next_window_of.ensures.value
 
 pub enter_next-tried-requires-clause-aside : goal.enter_next-tried-requires-clause-aside
 enter_next-tried-requires-clause-aside g c =
-    (c.moving.invariant.moves (ap (λ p. is_reshaping p.parts.members.newest) c.moving.view_is ∙ c.requires.active)).1.kept.members_are.aside
+    of-slot c.moving.inside.backup c.backup_slot-backup.result (ap (λ p. p.parts.backup) c.moving.view_is ∙ c.backup_slot-backup.ensures) (λ (slot : ℕ). IsUnused c.moving.inside.members slot) (c.moving.invariant.moves (ap (λ p. is_reshaping p.parts.members.newest) c.moving.view_is ∙ c.requires.active)).1.kept.members_are.aside
 
 pub enter_next-tried-requires-clause-wide : goal.enter_next-tried-requires-clause-wide
 enter_next-tried-requires-clause-wide g c =

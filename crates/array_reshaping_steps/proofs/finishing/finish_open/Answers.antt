@@ -52,7 +52,7 @@ invariant_of-moving g c =
     let was = (c.moving.invariant.moves (ap (λ p. is_reshaping p.parts.members.newest) c.moving.view_is ∙ c.requires.active)).1 in
     let a = c.moving.inside in
     let given = g.B.Bank.given a.bank in
-    let scope = scope_in given a.epoch.uuid a.epoch.given (Some a.backup) in
+    let scope = scope_in given a.epoch.uuid a.epoch.given a.backup in
     let goes : IsCallGoing a.epoch.entries.items c.args.who = subst (λ p. IsCallGoing p.parts.entries c.args.who) (sym c.moving.view_is) c.requires.open in
     let steps : 1 ≤ a.steps = subst (λ p. 1 ≤ p.parts.steps) (sym c.moving.view_is) c.requires.room in
     let tape = g.B.Bank.tape a.bank in
@@ -62,7 +62,7 @@ invariant_of-moving g c =
     c.args.who end (Refused refusal) was.kept goes (not_254 c.args.who.caller c.requires.caller) c.ops-end.ensures.count (quiet-refusal refusal) (λ told is. is)
     (λ t right. refused-right (world_in given tape scope a.epoch.first) a.epoch.entries.items given a.members was.kept.members_are.placed (was.kept.gone t right) (was.kept.levelled t right) refusal c.in-Some.ensures) in
     ready (entries_of c.args.who end (Refused refusal ∷ [])) was (grows-none (λ t. refl)) (shapes-same a.members.newest) kept
-    refl (never-falls _) (alone-keeps c.args.who end (Refused refusal) (λ n. refl) (λ limit. refl)) (λ none whole. whole) refl (scope-same given (Some a.backup) refl c.append_entry.ensures.uuid c.append_entry.ensures.given) c.append_entry.ensures.first refl c.append_entry.ensures.items
+    refl (never-falls _) (alone-keeps c.args.who end (Refused refusal) (λ n. refl) (λ limit. refl)) (λ none whole. whole) refl (scope-same given a.backup refl c.append_entry.ensures.uuid c.append_entry.ensures.given) c.append_entry.ensures.first refl c.append_entry.ensures.items
     (room-after-1 a.steps a.epoch.entries.room c.append_entry.new.epoch.entries.room was.room_left c.append_entry.ensures.room steps))
 
 pub returns-in-Some-clause-called : goal.returns-in-Some-clause-called
@@ -116,7 +116,7 @@ invariant_of-moving-in-Some-refusal g c =
     let was = (c.moving.invariant.moves (ap (λ p. is_reshaping p.parts.members.newest) c.moving.view_is ∙ c.requires.active)).1 in
     let a = c.moving.inside in
     let given = g.B.Bank.given a.bank in
-    let scope = scope_in given a.epoch.uuid a.epoch.given (Some a.backup) in
+    let scope = scope_in given a.epoch.uuid a.epoch.given a.backup in
     let goes : IsCallGoing a.epoch.entries.items c.args.who = subst (λ p. IsCallGoing p.parts.entries c.args.who) (sym c.moving.view_is) c.requires.open in
     let steps : 1 ≤ a.steps = subst (λ p. 1 ≤ p.parts.steps) (sym c.moving.view_is) c.requires.room in
     let m = c.finish_rest-rest.new.members in
@@ -152,7 +152,7 @@ invariant_of-moving-in-Some-refusal g c =
     with-buffer (let len = (with_items a.buffer c.finish_rest-rest.new.scratch).ok.0 in let ok = a.buffer.ok.0 in omega (arith, len, ok, was.buffer_fits))
     (ready (entries_of c.args.who end (losses_of roles spares ++ Refused refusal ∷ [])) was did.bank.grows (shapes-moved given a.members m moved) kept
     refl did.bank.counts (behind-keeps c.args.who end roles spares (Refused refusal) (λ n. refl) (λ limit. refl))
-    (behind-whole tape' scope a.epoch.first a.epoch.entries.items c.args.who end roles spares (Refused refusal) moved (missing-since roles moved did.since.vacant)) did.bank.same (scope-same given (Some a.backup) did.bank.same c.append_after_losses.ensures.uuid c.append_after_losses.ensures.given) c.append_after_losses.ensures.first refl c.append_after_losses.ensures.items
+    (behind-whole tape' scope a.epoch.first a.epoch.entries.items c.args.who end roles spares (Refused refusal) moved (missing-since roles moved did.since.vacant)) did.bank.same (scope-same given a.backup did.bank.same c.append_after_losses.ensures.uuid c.append_after_losses.ensures.given) c.append_after_losses.ensures.first refl c.append_after_losses.ensures.items
     (room-after-49 a.steps a.epoch.entries.room c.append_after_losses.new.epoch.entries.room was.room_left c.append_after_losses.ensures.room steps)))
 
 pub returns-in-Some-refusal-clause-called : goal.returns-in-Some-refusal-clause-called
@@ -191,7 +191,7 @@ invariant_of-moving-2 g c =
     let was = (c.moving.invariant.moves (ap (λ p. is_reshaping p.parts.members.newest) c.moving.view_is ∙ c.requires.active)).1 in
     let a = c.moving.inside in
     let given = g.B.Bank.given a.bank in
-    let scope = scope_in given a.epoch.uuid a.epoch.given (Some a.backup) in
+    let scope = scope_in given a.epoch.uuid a.epoch.given a.backup in
     let goes : IsCallGoing a.epoch.entries.items c.args.who = subst (λ p. IsCallGoing p.parts.entries c.args.who) (sym c.moving.view_is) c.requires.open in
     let steps : 1 ≤ a.steps = subst (λ p. 1 ≤ p.parts.steps) (sym c.moving.view_is) c.requires.room in
     let m = c.finish_rest-rest.new.members in
@@ -228,7 +228,7 @@ invariant_of-moving-2 g c =
     with-buffer (let len = (with_items a.buffer c.finish_rest-rest.new.scratch).ok.0 in let ok = a.buffer.ok.0 in omega (arith, len, ok, was.buffer_fits))
     (ready-moved (entries_of c.args.who end (losses_of roles spares ++ Step FinishesWindow left ∷ [])) was did.bank.grows (shapes-past given a.members m span moved) kept (λ next is. closed-sure next is)
     refl did.bank.counts (behind-keeps c.args.who end roles spares (Step FinishesWindow left) (λ n. refl) (λ limit. refl))
-    (behind-whole {old = moved_past span a.members} tape' scope a.epoch.first a.epoch.entries.items c.args.who end roles spares (Step FinishesWindow left) moved (missing-since {old = moved_past span a.members} roles moved did.since.vacant)) did.bank.same (scope-same given (Some a.backup) did.bank.same c.append_after_losses-2.ensures.uuid c.append_after_losses-2.ensures.given) c.append_after_losses-2.ensures.first refl c.append_after_losses-2.ensures.items
+    (behind-whole {old = moved_past span a.members} tape' scope a.epoch.first a.epoch.entries.items c.args.who end roles spares (Step FinishesWindow left) moved (missing-since {old = moved_past span a.members} roles moved did.since.vacant)) did.bank.same (scope-same given a.backup did.bank.same c.append_after_losses-2.ensures.uuid c.append_after_losses-2.ensures.given) c.append_after_losses-2.ensures.first refl c.append_after_losses-2.ensures.items
     (room-after-49 a.steps a.epoch.entries.room c.append_after_losses-2.new.epoch.entries.room was.room_left c.append_after_losses-2.ensures.room steps)))
 
 pub returns-clause-stood : goal.returns-clause-stood
@@ -236,7 +236,7 @@ returns-clause-stood g c =
     let was = (c.moving.invariant.moves (ap (λ p. is_reshaping p.parts.members.newest) c.moving.view_is ∙ c.requires.active)).1 in
     let a = c.moving.inside in
     let given = g.B.Bank.given a.bank in
-    let scope = scope_in given a.epoch.uuid a.epoch.given (Some a.backup) in
+    let scope = scope_in given a.epoch.uuid a.epoch.given a.backup in
     let goes : IsCallGoing a.epoch.entries.items c.args.who = subst (λ p. IsCallGoing p.parts.entries c.args.who) (sym c.moving.view_is) c.requires.open in
     let m = c.finish_rest-rest.new.members in
     let did = c.finish_rest-rest.ensures in
@@ -271,8 +271,8 @@ returns-clause-stood g c =
     (subst (λ (l : List ℕ). IsFinishedBy g.B.Bank.tells given tape tape' a.members m (final_shape a.members.newest) span c.in-Entered.copied c.finish_rest-rest.result.copied (take (512 * (span.hi - span.lo)) l) roles c.finish_rest-rest.result.refusal) c.as_slice.ensures.value by)
     left none c.left_in_reshape-left.ensures in
     rw (← c.moving.view_is) (λ t.
-    subst (λ (w : Window). IsWindowStanding (open_in w) (world_in given' tape' (scope_in given' epoch.uuid epoch.given (Some a.backup)) epoch.first) epoch.entries.items m (present given' tape')) (sym c.in-Entered.is)
-    (recorded-as (Some span) tape' m did.bank.same (scope-same given (Some a.backup) did.bank.same c.append_after_losses-2.ensures.uuid c.append_after_losses-2.ensures.given) c.append_after_losses-2.ensures.first c.append_after_losses-2.ensures.items (stands t)))
+    subst (λ (w : Window). IsWindowStanding (open_in w) (world_in given' tape' (scope_in given' epoch.uuid epoch.given a.backup) epoch.first) epoch.entries.items m (present given' tape')) (sym c.in-Entered.is)
+    (recorded-as (Some span) tape' m did.bank.same (scope-same given a.backup did.bank.same c.append_after_losses-2.ensures.uuid c.append_after_losses-2.ensures.given) c.append_after_losses-2.ensures.first c.append_after_losses-2.ensures.items (stands t)))
 
 pub returns-clause-goes : goal.returns-clause-goes
 returns-clause-goes g c =
@@ -288,7 +288,7 @@ returns-clause-called g c =
     let was = (alike c.moving.invariant) in
     let a = c.moving.inside in
     let given = g.B.Bank.given a.bank in
-    let scope = scope_in given a.epoch.uuid a.epoch.given (Some a.backup) in
+    let scope = scope_in given a.epoch.uuid a.epoch.given a.backup in
     let m = c.finish_rest-rest.new.members in
     let did = c.finish_rest-rest.ensures in
     let before = g.B.Bank.faults_of a.bank in
@@ -315,7 +315,7 @@ returns-clause-called g c =
           shape = moved.shape;
           size = moved.size;
           list = list-same given scope a.epoch.first refl
-              (scope-same given (Some a.backup) refl c.append_after_losses-2.ensures.uuid c.append_after_losses-2.ensures.given) c.append_after_losses-2.ensures.first did.bank.grows (λ t. (was.kept.recorded t).begun);
+              (scope-same given a.backup refl c.append_after_losses-2.ensures.uuid c.append_after_losses-2.ensures.given) c.append_after_losses-2.ensures.first did.bank.grows (λ t. (was.kept.recorded t).begun);
         };
         final = moved.reshape.final;
         backward = moved.reshape.backward;
@@ -410,11 +410,11 @@ returns-clause-entered g c =
 pub finish_rest-rest-requires-clause-stands : goal.finish_rest-rest-requires-clause-stands
 finish_rest-rest-requires-clause-stands g c =
     record {
-  slots = (alike c.moving.invariant).kept.slots;
-  placed = (alike c.moving.invariant).kept.members_are.placed;
-  unlost = (alike c.moving.invariant).kept.members_are.unlost;
-  free = (alike c.moving.invariant).kept.members_are.free;
-}
+      slots = (alike c.moving.invariant).kept.slots;
+      placed = (alike c.moving.invariant).kept.members_are.placed;
+      unlost = (alike c.moving.invariant).kept.members_are.unlost;
+      free = (alike c.moving.invariant).kept.members_are.free;
+    }
 
 pub returns-in-Some-refusal-clause-given : goal.returns-in-Some-refusal-clause-given
 returns-in-Some-refusal-clause-given g c = c.finish_rest-rest.ensures.bank.same ∙ ap (λ p. g.B.Bank.given p.parts.bank) c.moving.view_is
@@ -464,7 +464,9 @@ pub returns-in-Some-clause-active : goal.returns-in-Some-clause-active
 returns-in-Some-clause-active g c = (ap (λ p. is_reshaping p.parts.members.newest) c.moving.view_is ∙ c.requires.active)
 
 pub returns-in-Some-refusal-clause-active : goal.returns-in-Some-refusal-clause-active
-returns-in-Some-refusal-clause-active g c = c.finish_rest-rest.ensures.moved.reshape.reshaping ∙ (ap (λ p. is_reshaping p.parts.members.newest) c.moving.view_is ∙ c.requires.active)
+returns-in-Some-refusal-clause-active g c =
+    (moved-if (g.B.Bank.given c.moving.inside.bank) c.in-Entered.span c.moving.inside.members c.finish_rest-rest.new.members c.finish_rest-rest.result.refusal c.in-Some-refusal.refusal c.in-Some-refusal.is c.finish_rest-rest.ensures.moved).reshape.reshaping ∙ (ap (λ p. is_reshaping p.parts.members.newest) c.moving.view_is ∙ c.requires.active)
 
 pub returns-clause-active : goal.returns-clause-active
-returns-clause-active g c = c.finish_rest-rest.ensures.moved.reshape.reshaping ∙ (ap (λ p. is_reshaping p.parts.members.newest) c.moving.view_is ∙ c.requires.active)
+returns-clause-active g c =
+    (moved-none (g.B.Bank.given c.moving.inside.bank) c.in-Entered.span c.moving.inside.members c.finish_rest-rest.new.members c.finish_rest-rest.result.refusal c.in_default-refusal.is c.finish_rest-rest.ensures.moved).reshape.reshaping ∙ (ap (λ p. is_reshaping p.parts.members.newest) c.moving.view_is ∙ c.requires.active)

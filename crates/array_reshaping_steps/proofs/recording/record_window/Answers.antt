@@ -43,7 +43,7 @@ invariant_of-moving g c =
     let was = (c.moving.invariant.moves (ap (λ p. is_reshaping p.parts.members.newest) c.moving.view_is ∙ c.requires.active)).1 in
     let a = c.moving.inside in
     let given = g.B.Bank.given a.bank in
-    let scope = scope_in given a.epoch.uuid a.epoch.given (Some a.backup) in
+    let scope = scope_in given a.epoch.uuid a.epoch.given a.backup in
     let goes : IsCallGoing a.epoch.entries.items c.args.who = subst (λ p. IsCallGoing p.parts.entries c.args.who) (sym c.moving.view_is) c.requires.open in
     let some : 1 ≤ a.steps = subst (λ p. 1 ≤ p.parts.steps) (sym c.moving.view_is) c.requires.room in
     let tape = g.B.Bank.tape a.bank in
@@ -53,7 +53,7 @@ invariant_of-moving g c =
     c.args.who end (Refused refusal) was.kept goes (not_254 c.args.who.caller c.requires.caller) c.ops-end.ensures.count (quiet-refusal refusal) (λ told is. is)
     (λ t right. refused-right (world_in given tape scope a.epoch.first) a.epoch.entries.items given a.members was.kept.members_are.placed (was.kept.gone t right) (was.kept.levelled t right) refusal c.in-Some.ensures) in
     ready (entries_of c.args.who end (Refused refusal ∷ [])) was (grows-none (λ t. refl)) (shapes-same a.members.newest) kept
-    refl (λ slot. omega arith) (alone-keeps c.args.who end (Refused refusal) (λ n. refl) (λ limit. refl)) (λ none whole. whole) refl (scope-same given (Some a.backup) refl c.append_entry.ensures.uuid c.append_entry.ensures.given) c.append_entry.ensures.first refl c.append_entry.ensures.items
+    refl (λ slot. omega arith) (alone-keeps c.args.who end (Refused refusal) (λ n. refl) (λ limit. refl)) (λ none whole. whole) refl (scope-same given a.backup refl c.append_entry.ensures.uuid c.append_entry.ensures.given) c.append_entry.ensures.first refl c.append_entry.ensures.items
     (omega (arith, c.append_entry.ensures.room, was.room_left, some)))
 
 pub returns-in-Some-clause-entered : goal.returns-in-Some-clause-entered
@@ -128,7 +128,7 @@ invariant_of-moving-in-Some-refusal g c =
     let kept = record-refused a.course a.ahead c.in-Entered.span c.args.who end roles spares was.kept (live-of was.kept c.in_default.ensures) goes c.requires.caller c.ops-end-2.ensures.count did.bank.grows since did.clean did.rise did.others
     c.record-done.result.refusal refusal c.in-Some-refusal.is moved (many-of m c.record-done.result.refusal refusal c.in-Some-refusal.is did.refused) did.unused did.safe in
     ready (entries_of c.args.who end (losses_of roles spares ++ Refused refusal ∷ [])) was did.bank.grows (shapes-moved given a.members m moved) kept
-    refl did.bank.counts (behind-keeps c.args.who end roles spares (Refused refusal) (λ n. refl) (λ limit. refl)) (behind-whole tape' (scope_in given a.epoch.uuid a.epoch.given (Some a.backup)) a.epoch.first a.epoch.entries.items c.args.who end roles spares (Refused refusal) moved (missing-since roles moved since.vacant)) did.bank.same (scope-same given (Some a.backup) did.bank.same c.append_after_losses.ensures.uuid c.append_after_losses.ensures.given) c.append_after_losses.ensures.first refl c.append_after_losses.ensures.items
+    refl did.bank.counts (behind-keeps c.args.who end roles spares (Refused refusal) (λ n. refl) (λ limit. refl)) (behind-whole tape' (scope_in given a.epoch.uuid a.epoch.given a.backup) a.epoch.first a.epoch.entries.items c.args.who end roles spares (Refused refusal) moved (missing-since roles moved since.vacant)) did.bank.same (scope-same given a.backup did.bank.same c.append_after_losses.ensures.uuid c.append_after_losses.ensures.given) c.append_after_losses.ensures.first refl c.append_after_losses.ensures.items
     (omega (arith, c.append_after_losses.ensures.room, was.room_left, some)))
 
 pub returns-in-Some-refusal-clause-called : goal.returns-in-Some-refusal-clause-called
@@ -193,9 +193,9 @@ invariant_of-moving-2 g c =
     let since = since-past given a.members m c.in-Entered.span c.len-count.result c.unassigned_roles-before.result roles spares before after here.placed next moved did.failed
     (c.len-count.ensures ∙ here.backed.roles) c.unassigned_roles-before.ensures c.newly_unassigned-roles.ensures in
     let kept = record-done a.course a.ahead c.in-Entered.span c.args.who end roles spares was.kept (live-of was.kept c.in_default.ensures) goes c.requires.caller c.ops-end-2.ensures.count did.bank.grows since did.clean did.rise did.others
-    due.sectioned left is c.left_in_reshape-left.ensures moved c.in_default.ensures (λ t. did.plain none t (scope_in given a.epoch.uuid a.epoch.given (Some a.backup))) (safe-none-of c.record-done.result.refusal none did.safe) in
+    due.sectioned left is c.left_in_reshape-left.ensures moved c.in_default.ensures (λ t. did.plain none t (scope_in given a.epoch.uuid a.epoch.given a.backup)) (safe-none-of c.record-done.result.refusal none did.safe) in
     ready-moved (entries_of c.args.who end (losses_of roles spares ++ Step RecordsWindow left ∷ [])) was did.bank.grows (shapes-past given a.members m c.in-Entered.span moved) kept (λ span is. closed-sure span is)
-    refl did.bank.counts (behind-keeps c.args.who end roles spares (Step RecordsWindow left) (λ n. refl) (λ limit. refl)) (behind-whole {old = moved_past c.in-Entered.span a.members} tape' (scope_in given a.epoch.uuid a.epoch.given (Some a.backup)) a.epoch.first a.epoch.entries.items c.args.who end roles spares (Step RecordsWindow left) moved (missing-since {old = moved_past c.in-Entered.span a.members} roles moved since.vacant)) did.bank.same (scope-same given (Some a.backup) did.bank.same c.append_after_losses-2.ensures.uuid c.append_after_losses-2.ensures.given) c.append_after_losses-2.ensures.first refl c.append_after_losses-2.ensures.items
+    refl did.bank.counts (behind-keeps c.args.who end roles spares (Step RecordsWindow left) (λ n. refl) (λ limit. refl)) (behind-whole {old = moved_past c.in-Entered.span a.members} tape' (scope_in given a.epoch.uuid a.epoch.given a.backup) a.epoch.first a.epoch.entries.items c.args.who end roles spares (Step RecordsWindow left) moved (missing-since {old = moved_past c.in-Entered.span a.members} roles moved since.vacant)) did.bank.same (scope-same given a.backup did.bank.same c.append_after_losses-2.ensures.uuid c.append_after_losses-2.ensures.given) c.append_after_losses-2.ensures.first refl c.append_after_losses-2.ensures.items
     (omega (arith, c.append_after_losses-2.ensures.room, was.room_left, some)))
 
 pub returns-clause-called : goal.returns-clause-called
@@ -204,7 +204,7 @@ returns-clause-called g c =
     let here = was.kept.members_are in
     let a = c.moving.inside in
     let given = g.B.Bank.given a.bank in
-    let scope = scope_in given a.epoch.uuid a.epoch.given (Some a.backup) in
+    let scope = scope_in given a.epoch.uuid a.epoch.given a.backup in
     let due = subst (λ p. IsRecordDue p) (sym c.moving.view_is) c.requires.due in
     let same : c.in-Entered.span ≡ due.span = same-span c.in-Entered.span due.span c.in-Entered.copied _ c.in-Entered.sectioned due.sectioned (sym c.in-Entered.is ∙ ap (λ (k : Course). k.window) due.is) in
     let m = c.record-done.new.members in
@@ -236,7 +236,7 @@ returns-clause-called g c =
           shape = moved.shape;
           size = moved.size;
           list = list-same given scope a.epoch.first refl
-              (scope-same given (Some a.backup) refl c.append_after_losses-2.ensures.uuid c.append_after_losses-2.ensures.given) c.append_after_losses-2.ensures.first did.bank.grows (λ t. (was.kept.recorded t).begun);
+              (scope-same given a.backup refl c.append_after_losses-2.ensures.uuid c.append_after_losses-2.ensures.given) c.append_after_losses-2.ensures.first did.bank.grows (λ t. (was.kept.recorded t).begun);
         };
         final = moved.reshape.final;
         backward = moved.reshape.backward;
@@ -290,11 +290,11 @@ returns-in-Some-clause-given g c = ap (λ p. g.B.Bank.given p.parts.bank) c.movi
 pub record-done-requires-clause-stands : goal.record-done-requires-clause-stands
 record-done-requires-clause-stands g c =
     record {
-  slots = (alike c.moving.invariant).kept.slots;
-  placed = (alike c.moving.invariant).kept.members_are.placed;
-  unlost = (alike c.moving.invariant).kept.members_are.unlost;
-  free = (alike c.moving.invariant).kept.members_are.free;
-}
+      slots = (alike c.moving.invariant).kept.slots;
+      placed = (alike c.moving.invariant).kept.members_are.placed;
+      unlost = (alike c.moving.invariant).kept.members_are.unlost;
+      free = (alike c.moving.invariant).kept.members_are.free;
+    }
 
 pub record-done-requires-clause-next : goal.record-done-requires-clause-next
 record-done-requires-clause-next g c =
@@ -366,7 +366,9 @@ pub returns-in-Some-clause-active : goal.returns-in-Some-clause-active
 returns-in-Some-clause-active g c = (ap (λ p. is_reshaping p.parts.members.newest) c.moving.view_is ∙ c.requires.active)
 
 pub returns-in-Some-refusal-clause-active : goal.returns-in-Some-refusal-clause-active
-returns-in-Some-refusal-clause-active g c = c.record-done.ensures.moved.reshape.reshaping ∙ (ap (λ p. is_reshaping p.parts.members.newest) c.moving.view_is ∙ c.requires.active)
+returns-in-Some-refusal-clause-active g c =
+    (moved-if (g.B.Bank.given c.moving.inside.bank) c.in-Entered.span c.moving.inside.members c.record-done.new.members c.record-done.result.refusal c.in-Some-refusal.refusal c.in-Some-refusal.is c.record-done.ensures.moved).reshape.reshaping ∙ (ap (λ p. is_reshaping p.parts.members.newest) c.moving.view_is ∙ c.requires.active)
 
 pub returns-clause-active : goal.returns-clause-active
-returns-clause-active g c = c.record-done.ensures.moved.reshape.reshaping ∙ (ap (λ p. is_reshaping p.parts.members.newest) c.moving.view_is ∙ c.requires.active)
+returns-clause-active g c =
+    (moved-none (g.B.Bank.given c.moving.inside.bank) c.in-Entered.span c.moving.inside.members c.record-done.new.members c.record-done.result.refusal c.in_default-refusal.is c.record-done.ensures.moved).reshape.reshaping ∙ (ap (λ p. is_reshaping p.parts.members.newest) c.moving.view_is ∙ c.requires.active)

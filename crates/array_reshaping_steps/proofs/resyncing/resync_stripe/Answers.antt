@@ -43,7 +43,7 @@ invariant_of-moving g c =
     let was = (c.moving.invariant.moves (ap (λ p. is_reshaping p.parts.members.newest) c.moving.view_is ∙ c.requires.active)).1 in
     let a = c.moving.inside in
     let given = g.B.Bank.given a.bank in
-    let scope = scope_in given a.epoch.uuid a.epoch.given (Some a.backup) in
+    let scope = scope_in given a.epoch.uuid a.epoch.given a.backup in
     let goes : IsCallGoing a.epoch.entries.items c.args.who = subst (λ p. IsCallGoing p.parts.entries c.args.who) (sym c.moving.view_is) c.requires.open in
     let some : 1 ≤ a.steps = subst (λ p. 1 ≤ p.parts.steps) (sym c.moving.view_is) c.requires.room in
     let next = next-of _ c.unwrap_or-stripes.result (subst (λ p. IsResyncDue p) (sym c.moving.view_is) c.requires.due) c.unwrap_or-stripes.ensures in
@@ -52,7 +52,7 @@ invariant_of-moving g c =
     let kept = untried-moves g.B.Bank.tells given (g.B.Bank.tape a.bank) scope a.epoch.first a.epoch.entries.items a.members (bears a.work) a.work.resync a.course (bytes_in a.course.window a.window.items) (left_in a.work a.members a.course a.ahead)
     c.args.who end c.unwrap_or-stripes.result refusal was.kept goes (not_254 c.args.who.caller c.requires.caller) c.ops-end.ensures.count next.0 next.1 c.in-Some.ensures.why in
     ready (entries_of c.args.who end (Refused refusal ∷ [])) was (grows-none (λ t. refl)) (shapes-same a.members.newest) kept
-    refl (λ slot. omega arith) (alone-keeps c.args.who end (Refused refusal) (λ n. refl) (λ limit. refl)) (λ none whole. whole) refl (scope-same given (Some a.backup) refl c.append_entry.ensures.uuid c.append_entry.ensures.given) c.append_entry.ensures.first refl c.append_entry.ensures.items
+    refl (λ slot. omega arith) (alone-keeps c.args.who end (Refused refusal) (λ n. refl) (λ limit. refl)) (λ none whole. whole) refl (scope-same given a.backup refl c.append_entry.ensures.uuid c.append_entry.ensures.given) c.append_entry.ensures.first refl c.append_entry.ensures.items
     (omega (arith, c.append_entry.ensures.room, was.room_left, some)))
 
 pub returns-in-Some-clause-entered : goal.returns-in-Some-clause-entered
@@ -155,7 +155,7 @@ invariant_of-moving-in-Some-refusal g c =
     (refused-why (IsNotSynced (resync_shape a.members.newest stripes) m) (DoWithout m) c.resync_list-mended.result.refusal refusal c.in-Some-refusal.is did.refused) in
     with-buffers (omega (arith, was.rows_fit, did.rows)) (rw did.buffer was.buffer_fits)
     (ready (entries_of c.args.who end (losses_of roles spares ++ Refused refusal ∷ [])) was did.keeps.bank.grows (shapes-moved given a.members m did.keeps.moved) kept
-    refl did.keeps.bank.counts (behind-keeps c.args.who end roles spares (Refused refusal) (λ n. refl) (λ limit. refl)) (behind-whole tape' (scope_in given a.epoch.uuid a.epoch.given (Some a.backup)) a.epoch.first a.epoch.entries.items c.args.who end roles spares (Refused refusal) did.keeps.moved (missing-since roles did.keeps.moved since.vacant)) did.keeps.bank.same (scope-same given (Some a.backup) did.keeps.bank.same c.append_after_losses.ensures.uuid c.append_after_losses.ensures.given) c.append_after_losses.ensures.first refl c.append_after_losses.ensures.items
+    refl did.keeps.bank.counts (behind-keeps c.args.who end roles spares (Refused refusal) (λ n. refl) (λ limit. refl)) (behind-whole tape' (scope_in given a.epoch.uuid a.epoch.given a.backup) a.epoch.first a.epoch.entries.items c.args.who end roles spares (Refused refusal) did.keeps.moved (missing-since roles did.keeps.moved since.vacant)) did.keeps.bank.same (scope-same given a.backup did.keeps.bank.same c.append_after_losses.ensures.uuid c.append_after_losses.ensures.given) c.append_after_losses.ensures.first refl c.append_after_losses.ensures.items
     (omega (arith, c.append_after_losses.ensures.room, was.room_left, some))))
 
 pub returns-in-Some-refusal-clause-called : goal.returns-in-Some-refusal-clause-called
@@ -205,8 +205,8 @@ returns-in-Some-refusal-clause-clean g c =
 
 -- ---- it is done
 
-pub overflow_add-self : goal.overflow_add-self
-overflow_add-self g c =
+pub overflow_add-moving : goal.overflow_add-moving
+overflow_add-moving g c =
     let a = c.moving.inside in
     let next = next-of _ c.unwrap_or-stripes.result (subst (λ p. IsResyncDue p) (sym c.moving.view_is) c.requires.due) c.unwrap_or-stripes.ensures in
     let short = mends-short a.members.newest (alike c.moving.invariant).kept.members_are.placed.fit in
@@ -249,7 +249,7 @@ invariant_of-moving-2 g c =
     (done-why (IsNotSynced (resync_shape a.members.newest stripes) m) (DoWithout m) c.resync_list-mended.result.refusal c.in_default-refusal.is did.refused) (did.mended c.in_default-refusal.is) in
     with-buffers (omega (arith, was.rows_fit, did.rows)) (rw did.buffer was.buffer_fits)
     (ready-with (entries_of c.args.who end (losses_of roles spares ++ Step ResyncsStripe left ∷ [])) was did.keeps.bank.grows (shapes-moved given a.members m did.keeps.moved) kept
-    refl did.keeps.bank.counts (behind-keeps c.args.who end roles spares (Step ResyncsStripe left) (λ n. refl) (λ limit. refl)) (behind-whole tape' (scope_in given a.epoch.uuid a.epoch.given (Some a.backup)) a.epoch.first a.epoch.entries.items c.args.who end roles spares (Step ResyncsStripe left) did.keeps.moved (missing-since roles did.keeps.moved since.vacant)) did.keeps.bank.same (scope-same given (Some a.backup) did.keeps.bank.same c.append_after_losses-2.ensures.uuid c.append_after_losses-2.ensures.given) c.append_after_losses-2.ensures.first refl c.append_after_losses-2.ensures.items
+    refl did.keeps.bank.counts (behind-keeps c.args.who end roles spares (Step ResyncsStripe left) (λ n. refl) (λ limit. refl)) (behind-whole tape' (scope_in given a.epoch.uuid a.epoch.given a.backup) a.epoch.first a.epoch.entries.items c.args.who end roles spares (Step ResyncsStripe left) did.keeps.moved (missing-since roles did.keeps.moved since.vacant)) did.keeps.bank.same (scope-same given a.backup did.keeps.bank.same c.append_after_losses-2.ensures.uuid c.append_after_losses-2.ensures.given) c.append_after_losses-2.ensures.first refl c.append_after_losses-2.ensures.items
     (omega (arith, c.append_after_losses-2.ensures.room, was.room_left, some))))
 
 pub returns-clause-called : goal.returns-clause-called
@@ -331,11 +331,11 @@ returns-in-Some-clause-given g c = ap (λ p. g.B.Bank.given p.parts.bank) c.movi
 pub resync_list-mended-requires-clause-stands : goal.resync_list-mended-requires-clause-stands
 resync_list-mended-requires-clause-stands g c =
     record {
-  slots = (alike c.moving.invariant).kept.slots;
-  placed = (alike c.moving.invariant).kept.members_are.placed;
-  unlost = (alike c.moving.invariant).kept.members_are.unlost;
-  free = (alike c.moving.invariant).kept.members_are.free;
-}
+      slots = (alike c.moving.invariant).kept.slots;
+      placed = (alike c.moving.invariant).kept.members_are.placed;
+      unlost = (alike c.moving.invariant).kept.members_are.unlost;
+      free = (alike c.moving.invariant).kept.members_are.free;
+    }
 
 pub newly_unassigned-roles-requires-clause-known : goal.newly_unassigned-roles-requires-clause-known
 newly_unassigned-roles-requires-clause-known g c =

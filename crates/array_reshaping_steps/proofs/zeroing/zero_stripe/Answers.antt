@@ -1,4 +1,4 @@
-use Rattle.std.proofs.Common.{None, ◌≡◌, ◌+◌, ◌≤◌, ◌<◌, List, [], ◌∷◌, ◌++◌, Some, refl, sym, ◌∙◌, ap, subst, arith, ℕ, length, zero-le}
+use Rattle.std.proofs.Common.{None, ◌≡◌, ◌+◌, ◌≤◌, ◌<◌, List, [], ◌∷◌, ◌++◌, refl, sym, ◌∙◌, ap, subst, arith, ℕ, length, zero-le}
 use Rattle.std.specs.Vec.{with_items}
 use Rattle.std.proofs.Math.Nat.{div-le_self}
 use Rattle.array_fixed_invariant.specs.raid_types_the_Shape.{Shape}
@@ -45,7 +45,7 @@ invariant_of-moving g c =
     let was = (c.moving.invariant.moves (ap (λ p. is_reshaping p.parts.members.newest) c.moving.view_is ∙ c.requires.active)).1 in
     let a = c.moving.inside in
     let given = g.B.Bank.given a.bank in
-    let scope = scope_in given a.epoch.uuid a.epoch.given (Some a.backup) in
+    let scope = scope_in given a.epoch.uuid a.epoch.given a.backup in
     let goes : IsCallGoing a.epoch.entries.items c.args.who = subst (λ p. IsCallGoing p.parts.entries c.args.who) (sym c.moving.view_is) c.requires.open in
     let some : 1 ≤ a.steps = subst (λ p. 1 ≤ p.parts.steps) (sym c.moving.view_is) c.requires.room in
     let tape = g.B.Bank.tape a.bank in
@@ -55,7 +55,7 @@ invariant_of-moving g c =
     c.args.who end (Refused refusal) was.kept goes (not_254 c.args.who.caller c.requires.caller) c.ops-end.ensures.count (quiet-refusal refusal) (λ told is. is)
     (λ t right. refused-right (world_in given tape scope a.epoch.first) a.epoch.entries.items given a.members was.kept.members_are.placed (was.kept.gone t right) (was.kept.levelled t right) refusal c.in-Some.ensures) in
     ready (entries_of c.args.who end (Refused refusal ∷ [])) was (grows-none (λ t. refl)) (shapes-same a.members.newest) kept
-    refl (λ slot. omega arith) (alone-keeps c.args.who end (Refused refusal) (λ n. refl) (λ limit. refl)) (λ none whole. whole) refl (scope-same given (Some a.backup) refl c.append_entry.ensures.uuid c.append_entry.ensures.given) c.append_entry.ensures.first refl c.append_entry.ensures.items
+    refl (λ slot. omega arith) (alone-keeps c.args.who end (Refused refusal) (λ n. refl) (λ limit. refl)) (λ none whole. whole) refl (scope-same given a.backup refl c.append_entry.ensures.uuid c.append_entry.ensures.given) c.append_entry.ensures.first refl c.append_entry.ensures.items
     (omega (arith, c.append_entry.ensures.room, was.room_left, some)))
 
 pub returns-in-Some-clause-entered : goal.returns-in-Some-clause-entered
@@ -143,7 +143,7 @@ invariant_of-moving-in-Some-refusal g c =
     (many-of m c.zero-done.result.refusal refusal c.in-Some-refusal.is did.refused) in
     with-buffer (let len = (with_items a.buffer c.zero-done.new.scratch).ok.0 in let ok = a.buffer.ok.0 in omega (arith, len, ok, was.buffer_fits))
     (ready (entries_of c.args.who end (losses_of roles spares ++ Refused refusal ∷ [])) was did.keeps.bank.grows (shapes-moved given a.members m did.keeps.moved) kept
-    refl did.keeps.bank.counts (behind-keeps c.args.who end roles spares (Refused refusal) (λ n. refl) (λ limit. refl)) (behind-whole tape' (scope_in given a.epoch.uuid a.epoch.given (Some a.backup)) a.epoch.first a.epoch.entries.items c.args.who end roles spares (Refused refusal) did.keeps.moved (missing-since roles did.keeps.moved since.vacant)) did.keeps.bank.same (scope-same given (Some a.backup) did.keeps.bank.same c.append_after_losses.ensures.uuid c.append_after_losses.ensures.given) c.append_after_losses.ensures.first refl c.append_after_losses.ensures.items
+    refl did.keeps.bank.counts (behind-keeps c.args.who end roles spares (Refused refusal) (λ n. refl) (λ limit. refl)) (behind-whole tape' (scope_in given a.epoch.uuid a.epoch.given a.backup) a.epoch.first a.epoch.entries.items c.args.who end roles spares (Refused refusal) did.keeps.moved (missing-since roles did.keeps.moved since.vacant)) did.keeps.bank.same (scope-same given a.backup did.keeps.bank.same c.append_after_losses.ensures.uuid c.append_after_losses.ensures.given) c.append_after_losses.ensures.first refl c.append_after_losses.ensures.items
     (omega (arith, c.append_after_losses.ensures.room, was.room_left, some))))
 
 pub returns-in-Some-refusal-clause-called : goal.returns-in-Some-refusal-clause-called
@@ -221,7 +221,7 @@ invariant_of-moving-2 g c =
     (rows-zeroed given a.members m tape' c.final_in-shape.result c.stripe_to_zero-stripe.result a.course.zeroed c.final_in-shape.ensures c.stripe_to_zero-stripe.ensures.value (did.stands c.in_default-refusal.is)) in
     with-buffer (let len = (with_items a.buffer c.zero-done.new.scratch).ok.0 in let ok = a.buffer.ok.0 in omega (arith, len, ok, was.buffer_fits))
     (ready (entries_of c.args.who end (losses_of roles spares ++ Step ZeroesStripe left ∷ [])) was did.keeps.bank.grows (shapes-moved given a.members m did.keeps.moved) kept
-    refl did.keeps.bank.counts (behind-keeps c.args.who end roles spares (Step ZeroesStripe left) (λ n. refl) (λ limit. refl)) (behind-whole tape' (scope_in given a.epoch.uuid a.epoch.given (Some a.backup)) a.epoch.first a.epoch.entries.items c.args.who end roles spares (Step ZeroesStripe left) did.keeps.moved (missing-since roles did.keeps.moved since.vacant)) did.keeps.bank.same (scope-same given (Some a.backup) did.keeps.bank.same c.append_after_losses-2.ensures.uuid c.append_after_losses-2.ensures.given) c.append_after_losses-2.ensures.first refl c.append_after_losses-2.ensures.items
+    refl did.keeps.bank.counts (behind-keeps c.args.who end roles spares (Step ZeroesStripe left) (λ n. refl) (λ limit. refl)) (behind-whole tape' (scope_in given a.epoch.uuid a.epoch.given a.backup) a.epoch.first a.epoch.entries.items c.args.who end roles spares (Step ZeroesStripe left) did.keeps.moved (missing-since roles did.keeps.moved since.vacant)) did.keeps.bank.same (scope-same given a.backup did.keeps.bank.same c.append_after_losses-2.ensures.uuid c.append_after_losses-2.ensures.given) c.append_after_losses-2.ensures.first refl c.append_after_losses-2.ensures.items
     (omega (arith, c.append_after_losses-2.ensures.room, was.room_left, some))))
 
 pub returns-clause-called : goal.returns-clause-called
@@ -281,11 +281,11 @@ stripe_to_zero-stripe-requires-clause-zeroed g c =
 pub zero-done-requires-clause-stands : goal.zero-done-requires-clause-stands
 zero-done-requires-clause-stands g c =
     record {
-  slots = (alike c.moving.invariant).kept.slots;
-  placed = (alike c.moving.invariant).kept.members_are.placed;
-  unlost = (alike c.moving.invariant).kept.members_are.unlost;
-  free = (alike c.moving.invariant).kept.members_are.free;
-}
+      slots = (alike c.moving.invariant).kept.slots;
+      placed = (alike c.moving.invariant).kept.members_are.placed;
+      unlost = (alike c.moving.invariant).kept.members_are.unlost;
+      free = (alike c.moving.invariant).kept.members_are.free;
+    }
 
 pub zero-done-requires-clause-shape : goal.zero-done-requires-clause-shape
 zero-done-requires-clause-shape g c = c.final_in-shape.ensures

@@ -1,6 +1,5 @@
 use Rattle.std.proofs.Common.{sym, ap, ◌∙◌}
 use Rattle.sb_election.specs.sb_specs_Reading.{is_reshaping}
-use Rattle.array_fixed_laws.specs.array_specs_Parts.{RunningParts}
 use Rattle.array_reshaping_laws.specs.reshape_progress_the_Course.{Course}
 use Rattle.array_type.proofs.state.Array.part_fixed.Goals as goal
 
