@@ -4,6 +4,9 @@
 mod reading;
 mod writing;
 
-pub use array_type::{Bank, Entries, Epoch, Event, Members, PhasesLeft, Pieces, StepKind, Array, Work, first_spare, is_missing, planned_left, set_rebuilt, steps_left, unassigned_roles};
+pub use array_type::{
+    Array, Bank, Entries, Epoch, Event, Members, PhasesLeft, Pieces, StepKind, Work, first_spare,
+    is_missing, planned_left, set_rebuilt, steps_left, unassigned_roles,
+};
 pub use reading::read;
 pub use writing::write;

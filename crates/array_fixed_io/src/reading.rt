@@ -20,7 +20,11 @@ ghost use Rattle.array_type.specs.history_invariant_Safe.{IsFilledRight};
 ghost use Rattle.array_type.specs.array_specs_Calls.{moving_world, IsCalled};
 ghost use Rattle.array_type.specs.array_specs_Parts.{visible_size, visible_in};
 
-use array_type::{Bank, Event, Fault, Members, Refusal, Sectors, Array, Who, append_after_losses, append_entry, check_number, first_read_refusal, newly_unassigned, read_listed, shape_in, synced_rows, unassigned_roles, sectors_at_rest, visible_of, zeros};
+use array_type::{
+    Array, Bank, Event, Fault, Members, Refusal, Sectors, Who, append_after_losses, append_entry,
+    check_number, first_read_refusal, newly_unassigned, read_listed, sectors_at_rest, shape_in,
+    synced_rows, unassigned_roles, visible_of, zeros,
+};
 
 // Why so many sectors from one on aren't read, before any is: the first of `PastEnd`, `TooManyMissing` and `NotResynced`.
 fn unread_here(

@@ -17,7 +17,11 @@ ghost use Rattle.array_type.specs.array_call_specs_Calls.{IsAnswered, IsCausedBy
 ghost use Rattle.array_type.specs.array_specs_Calls.{IsCalled};
 ghost use Rattle.array_type.specs.array_specs_Parts.{visible_size, visible_in};
 
-use array_type::{Bank, Event, Fault, Members, Refusal, Sectors, Array, Who, append_after_losses, append_entry, append_failure, are_synced, check_number, first_write_refusal, newly_unassigned, shape_in, unassigned_roles, sectors_at_rest, visible_of, write_listed};
+use array_type::{
+    Array, Bank, Event, Fault, Members, Refusal, Sectors, Who, append_after_losses, append_entry,
+    append_failure, are_synced, check_number, first_write_refusal, newly_unassigned,
+    sectors_at_rest, shape_in, unassigned_roles, visible_of, write_listed,
+};
 
 // Why so many sectors from one on aren't written, before any row is read: the first of `PastEnd`, `TooManyMissing` and `NotResynced`.
 fn unwritten_here(

@@ -24,7 +24,11 @@ ghost use Rattle.array_type.specs.array_fixed_laws_Steps.{IsStepped, IsClosable,
 
 use crate::naming::{fill_and_name, give_and_name, record_and_name};
 use crate::refusing::refuse_step;
-use array_type::{Bank, Event, Fault, StepKind, Array, Who, left_at_rest, append_after_losses, append_entry, append_lost, check_going, is_unassigned, newly_unassigned, recovering_slot, set_rebuilt, shape_in, too_many, unassigned_roles, with, without};
+use array_type::{
+    Array, Bank, Event, Fault, StepKind, Who, append_after_losses, append_entry, append_lost,
+    check_going, is_unassigned, left_at_rest, newly_unassigned, recovering_slot, set_rebuilt,
+    shape_in, too_many, unassigned_roles, with, without,
+};
 
 /// The first step of a rebuild: gives a role that no slot holds to a spare, which recovers it from the first row on.
 /// Where that slot is lost in it, so is the role. Refusals: `TooManyMissing`. It takes no memory.

@@ -20,7 +20,11 @@ ghost use Rattle.array_type.specs.array_specs_Plans.{ArePlansKept};
 ghost use Rattle.array_type.specs.array_fixed_laws_Steps.{IsStepped, IsClosable};
 
 use crate::refusing::refuse_step;
-use array_type::{Bank, Event, Fault, StepKind, Array, Who, left_at_rest, append_after_losses, check_going, first_resync_refusal, flush_and_mark, newly_unassigned, resync_rows, shape_in, too_many, unassigned_roles};
+use array_type::{
+    Array, Bank, Event, Fault, StepKind, Who, append_after_losses, check_going,
+    first_resync_refusal, flush_and_mark, left_at_rest, newly_unassigned, resync_rows, shape_in,
+    too_many, unassigned_roles,
+};
 
 /// A step of the pending resync: makes the parity of its next stripe fit the data. Every role that has data must be there.
 /// Refusals: `TooManyMissing` and `NotResynced`. It takes no memory.

@@ -22,7 +22,9 @@ ghost use Rattle.array_type.specs.array_members_Rebuilding.{AreSparesFree, with_
 ghost use Rattle.array_type.specs.array_members_Status.{stripes_of};
 ghost use Rattle.array_type.specs.sb_safe_updates_Named.{AreNamedMissing};
 
-use array_type::{Bank, Filled, Members, Shape, fill, flush_and_record, give_role, is_unassigned, record_missing};
+use array_type::{
+    Bank, Filled, Members, Shape, fill, flush_and_record, give_role, is_unassigned, record_missing,
+};
 
 // Gives a role that no slot holds to a spare, which has nothing of it yet, and names the roles that no slot holds. The other spares
 // that were lost in this.

@@ -1,8 +1,8 @@
 //! The next step of a rebuild.
 
-ghost use Rattle.std.specs.Prelude.{◌≡◌, ◌≢◌, ◌+◌, ◌≤◌, None, Err, OnOk, OnErr};
+ghost use Rattle.std.specs.Prelude.{◌≡◌, ◌≢◌, ◌+◌, ◌≤◌, None, Err, OnOk, OnErr, false};
 ghost use Rattle.array_type.specs.raid_types_the_Fault_TheVariants.{NoMemory as WantsMemory};
-ghost use Rattle.array_type.specs.sb_specs_Reading.{is_clean, list_length};
+ghost use Rattle.array_type.specs.sb_specs_Reading.{is_clean, list_length, is_reshaping};
 ghost use Rattle.array_type.specs.stripe_row_Rows.{present};
 ghost use Rattle.array_type.specs.history_World.{opening_list};
 ghost use Rattle.array_type.specs.history_Flat.{now};
@@ -20,7 +20,7 @@ ghost use Rattle.array_type.specs.Rebuilding.{rebuilt_role, rebuild_kind, rebuil
 
 use crate::choosing::{first_recovering, first_unassigned};
 use crate::filling::{end_rebuild, rebuild_stripe, take_role};
-use array_type::{Bank, Fault, Array, Who, first_spare};
+use array_type::{Array, Bank, Fault, Who, first_spare};
 
 // Does the next step of a rebuild: of the lowest role that a slot recovers, its next stripe, or, where all are rebuilt, its
 // end; or else gives the lowest role that no slot holds to the lowest spare. Where the slot that is rebuilt is lost, this
@@ -33,6 +33,7 @@ pub(crate) fn rebuild_step<B: Bank>(still: &mut Array<B>, who: Who) -> Result<()
     requires pending { IsRebuildNext still.old.parts.members }
     requires plans { ArePlansKept B.tells (moving_world (B.given still.old.parts.bank) (B.tape still.old.parts.bank) still.old) still.old }
     requires room { 1 ≤ still.old.parts.steps }
+    requires still { is_reshaping still.old.parts.members.newest ≡ false }
     ensures entered { let role = rebuilt_role still.old.parts.members in IsRebuildStepped who still.old.parts.entries still.new.parts.entries still.new.parts.members role
         (rebuild_events (rebuild_kind still.old.parts.work still.old.parts.members) role (still_left still.new.parts.work still.new.parts.members still.new.ahead)) result }
     ensures memory { result ≢ Err WantsMemory }
@@ -51,6 +52,7 @@ pub(crate) fn rebuild_step<B: Bank>(still: &mut Array<B>, who: Who) -> Result<()
         → RowsStand still.new.parts.members (present (B.given still.new.parts.bank) (B.tape still.new.parts.bank)) (now (opening_list (moving_world (B.given still.new.parts.bank) (B.tape still.new.parts.bank) still.new)) still.new.parts.entries)) }
     ensures stepped { IsStepped B.tells (B.given still.old.parts.bank) (B.tape still.old.parts.bank) (B.tape still.new.parts.bank) (IsHeldOrNext still.old.parts.work still.old.parts.members) (B.faults_of still.old.parts.bank) (B.faults_of still.new.parts.bank) still.old still.new }
     ensures held { AreHeldOrSpare still.old.parts.members still.new.parts.members }
+    ensures still { is_reshaping still.new.parts.members.newest ≡ false }
     ensures given { B.given still.new.parts.bank ≡ B.given still.old.parts.bank }
 {
     let disks = still.disks();

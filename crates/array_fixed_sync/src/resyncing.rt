@@ -1,7 +1,7 @@
 //! The next step of a pending resync.
 
-ghost use Rattle.std.specs.Prelude.{◌≡◌, ◌≢◌, ◌+◌, ◌≤◌, OnOk, OnErr, IsSome, IsTrue};
-ghost use Rattle.array_type.specs.sb_specs_Reading.{is_clean, list_length};
+ghost use Rattle.std.specs.Prelude.{◌≡◌, ◌≢◌, ◌+◌, ◌≤◌, OnOk, OnErr, IsSome, IsTrue, false};
+ghost use Rattle.array_type.specs.sb_specs_Reading.{is_clean, list_length, is_reshaping};
 ghost use Rattle.array_type.specs.stripe_row_Rows.{reading_of, present};
 ghost use Rattle.array_type.specs.history_World.{opening_list};
 ghost use Rattle.array_type.specs.history_Flat.{now};
@@ -19,7 +19,7 @@ ghost use Rattle.array_type.specs.array_fixed_laws_Steps.{IsStepped, IsClosable}
 ghost use Rattle.array_fixed_sync.specs.Resyncing.{is_at_end, next_kind, after_step, IsUnsynced};
 
 use crate::mending::{end_resync, resync_stripe};
-use array_type::{Bank, Fault, Array, Who};
+use array_type::{Array, Bank, Fault, Who};
 
 // Does the next step of the pending resync: mends its next stripe, or, where every stripe is mended, flushes the members and marks
 // the array clean. Refusals: `TooManyMissing`, and at a stripe `NotResynced`. It takes no memory.
@@ -29,6 +29,7 @@ pub(crate) fn resync_step<B: Bank>(still: &mut Array<B>, who: Who) -> Result<(),
     requires pending { IsSome still.old.parts.work.resync }
     requires plans { ArePlansKept B.tells (moving_world (B.given still.old.parts.bank) (B.tape still.old.parts.bank) still.old) still.old }
     requires room { 1 ≤ still.old.parts.steps }
+    requires still { is_reshaping still.old.parts.members.newest ≡ false }
     ensures entered { IsStepTaken who still.old.parts.entries still.new.parts.entries (next_kind still.old.parts.work.resync still.old.parts.members) (still_left still.new.parts.work still.new.parts.members still.new.ahead) result }
     ensures open { IsCallGoing still.new.parts.entries who }
     ensures room { still.new.parts.steps + 1 ≡ still.old.parts.steps }
@@ -45,6 +46,7 @@ pub(crate) fn resync_step<B: Bank>(still: &mut Array<B>, who: Who) -> Result<(),
     ensures stepped { IsStepped B.tells (B.given still.old.parts.bank) (B.tape still.old.parts.bank) (B.tape still.new.parts.bank) (Held still.old.parts.members) (B.faults_of still.old.parts.bank) (B.faults_of still.new.parts.bank) still.old still.new }
     ensures held { AreStillHeld still.old.parts.members still.new.parts.members }
     ensures spares { AreSparesFewer still.old.parts.members still.new.parts.members }
+    ensures still { is_reshaping still.new.parts.members.newest ≡ false }
     ensures given { B.given still.new.parts.bank ≡ B.given still.old.parts.bank }
 {
     if still.resync() == Some(still.stripes()) {

@@ -23,7 +23,7 @@ ghost use Rattle.array_fixed_sync.specs.Stepping.{IsUndone, IsEnd, IsStepEntered
 
 use crate::rebuilding::rebuild_step;
 use crate::resyncing::resync_step;
-use array_type::{Bank, Fault, Array, Who};
+use array_type::{Array, Bank, Fault, Who};
 
 /// Does the next step of an array without a reshape, of which one is left besides those of the phases ahead: of the resync where one is
 /// pending, or else of a rebuild. Where the slot that is rebuilt is lost, only the loss is entered. Refusals: `TooManyMissing`, and at a

@@ -5,7 +5,7 @@ ghost use Rattle.std.specs.Prelude.{◌≡◌, ◌<◌, ◌≤◌, ℕ, true, fa
 ghost use Rattle.array_grow.specs.Plans.{IsAside};
 
 use array_reply_specs::{Bank, is_spare};
-use array_transition::{Members, Array, contains, holds_role};
+use array_transition::{Array, Members, contains, holds_role};
 
 // Whether the slot was found sound, holds no role and is no spare.
 fn is_aside(members: &Members, given: u32, slot: u32) -> bool

@@ -12,7 +12,7 @@ ghost use Rattle.array_transition.specs.array_specs_Parts.{visible_in};
 ghost use Rattle.array_grow.specs.Planned.{asked_in};
 
 use array_reply_specs::{Bank, Refusal, Wish};
-use array_transition::{Members, PhasesLeft, Array, judge_grow};
+use array_transition::{Array, Members, PhasesLeft, judge_grow};
 
 // How many sectors the backup slot has; none where the bank has no such slot.
 fn backup_sectors<B: Bank>(bank: &B, backup: Option<u32>) -> Option<u64>

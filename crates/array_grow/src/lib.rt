@@ -7,9 +7,14 @@ mod judging;
 mod planning;
 mod refusing;
 
-pub use array_reply_specs::{Bank, Fault, NoMemory, Phase, Refusal, Shape, Who, final_in, shape_in};
-pub use array_transition::{Course, Due, Array, Room, append_absent, begin_reshape, due_step, finish_reshape, first_recovering, found_numbers, list_sectors, room_for, step, steps_left, still_step, zeros};
 pub use array_calls::{answer, make_room};
+pub use array_reply_specs::{
+    Bank, Fault, NoMemory, Phase, Refusal, Shape, Who, final_in, shape_in,
+};
+pub use array_transition::{
+    Array, Course, Due, Room, append_absent, begin_reshape, due_step, finish_reshape,
+    first_recovering, found_numbers, list_sectors, room_for, step, steps_left, still_step, zeros,
+};
 pub use backing::can_back;
 pub use planning::{PlannedGrow, plan_grow};
 pub use refusing::{refuse_grow, refuse_limit};

@@ -15,8 +15,9 @@ ghost use Rattle.array_grow.specs.Planned.{asked_in, IsGrowJudged, IsGrowReply, 
 ghost use Rattle.array_grow.specs.Plans.{GoesTo};
 
 use crate::judging::judge;
+use array_calls::make_room;
 use array_reply_specs::{Bank, Fault, Refusal, Who, Wish, append_entry, check_number};
-use array_transition::{Event, Array, all_left, plan_of, zeros};
+use array_transition::{Array, Event, all_left, plan_of, zeros};
 
 /// What a plan answers: how many steps are left, and a buffer for each of its windows.
 #[derive(Drop)]
@@ -118,7 +119,7 @@ pub fn plan_grow<B: Bank>(
 {
     let (mut still, refusal) = judge(still, &wish);
     if let Some(refusal) = refusal {
-        match still.make_room(1) {
+        match make_room(&mut still, 1) {
             Ok(()) => {}
             Err(_) => return (still, Err(Fault::NoMemory)),
         }
@@ -130,7 +131,7 @@ pub fn plan_grow<B: Bank>(
         Ok(window) => window,
         Err(fault) => return (still, Err(fault)),
     };
-    match still.make_room(1) {
+    match make_room(&mut still, 1) {
         Ok(()) => {}
         Err(_) => return (still, Err(Fault::NoMemory)),
     }

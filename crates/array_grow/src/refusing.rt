@@ -16,8 +16,10 @@ ghost use Rattle.array_reply_specs.specs.array_specs_Visible.{IsLimitedAs};
 ghost use Rattle.array_grow.specs.Planned.{asked_in, IsJudged, IsGrowJudged, IsReplyTo, IsReplied, IsRefusedInReshape, IsGrowAnswered, IsAsBefore};
 
 use crate::planning::PlannedGrow;
-use array_reply_specs::{Bank, BusyKind, Fault, NoMemory, Refusal, Who, Wish, append_entry, check_number};
-use array_transition::{Event, Array};
+use array_reply_specs::{
+    Bank, BusyKind, Fault, NoMemory, Refusal, Who, Wish, append_entry, check_number,
+};
+use array_transition::{Array, Event};
 
 // Enters that a request is refused for the reshape. Want of memory changes nothing.
 fn enter_busy<B: Bank>(moving: Array<B>, who: Who) -> (Array<B>, Result<(), NoMemory>)
@@ -28,10 +30,9 @@ fn enter_busy<B: Bank>(moving: Array<B>, who: Who) -> (Array<B>, Result<(), NoMe
         → IsReplyTo B.tells (moving_world (B.given moving.parts.bank) (B.tape moving.parts.bank) moving) (length (phases_of moving.ahead)) moving.parts.members request who moving.parts.entries result.0.parts.entries (Refused (Busy Reshape))) }
     ensures unchanged { OnErr result.1 (result.0 ≡ moving) }
     ensures same { IsLimitedAs moving.limit moving result.0 }
-    ensures active { is_reshaping moving.parts.members.newest ≡ true }
     ensures ended { IsEndOf B.tells result.0.parts.first result.0.parts.entries (B.tape result.0.parts.bank) }
     ensures visible { visible_of (list_length moving.parts.members.newest) moving.parts.entries ≡ visible_in moving }
-    ensures stays_active { is_reshaping result.0.parts.members.newest ≡ true }
+    ensures active { is_reshaping result.0.parts.members.newest ≡ true }
 {
     let (mut pieces, course, window) = moving.part_reshaping();
     let Some(backup) = pieces.backup else {

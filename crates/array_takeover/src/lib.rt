@@ -5,5 +5,4 @@ mod choosing;
 mod taking;
 
 pub use array_fixed_io::{Epoch, Event, Members, PhasesLeft, Pieces, read, write};
-pub use array_calls::add;
 pub use taking::take_over;

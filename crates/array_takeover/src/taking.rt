@@ -25,7 +25,10 @@ ghost use Rattle.array_fixed_io.specs.array_fixed_invariant_reshape_progress_Law
 ghost use Rattle.array_takeover.specs.TakenOver.{IsTakeoverNext, IsUntaken, IsUntouched, IsLevelTaken, work_then};
 
 use crate::choosing::taken_slot;
-use array_fixed_io::{Bank, Entries, Epoch, Event, Members, PhasesLeft, Pieces, StepKind, Array, Work, planned_left, set_rebuilt, steps_left, unassigned_roles};
+use array_fixed_io::{
+    Array, Bank, Entries, Epoch, Event, Members, PhasesLeft, Pieces, StepKind, Work, planned_left,
+    set_rebuilt, steps_left, unassigned_roles,
+};
 use array_takeover_laws::{Refusal, Shape, Who, append_entry, append_lost};
 use reshape_sb_takeover::take_over as take_level;
 

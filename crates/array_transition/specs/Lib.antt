@@ -1,6 +1,5 @@
 pub mod Begun
 pub mod Ended
-pub use Rattle.array_calls.specs.Replies as array_reshaping_steps_Replies
 pub use Rattle.array_reshaping_steps.specs.reshape_progress_Course
 pub use Rattle.array_reshaping_steps.specs.reshape_progress_Laws
 pub use Rattle.array_reshaping_steps.specs.reshape_progress_the_Course

@@ -28,8 +28,11 @@ ghost use Rattle.array_fixed_sync.specs.array_fixed_laws_Ready.{IsReady};
 ghost use Rattle.array_transition.specs.Begun.{begun_length, HasKeptLength, IsBackupAt, IsPlain, IsReshapeBegun, IsGivenBack, IsBeginRefused};
 
 use crate::refusing::unbegun;
-use array_fixed_sync::Array;
-use array_reshaping_steps::{Bank, Course, Entries, Epoch, Event, Members, Array, PhasesLeft, Pieces, Refusal, Shape, StepKind, Who, Window, append_entry, append_lost, begin, contains, is_backward, list_sectors, planned_left, reshape_left, unassigned_roles};
+use array_reshaping_steps::{
+    Array, Bank, Course, Entries, Epoch, Event, Members, PhasesLeft, Pieces, Refusal, Shape,
+    StepKind, Who, Window, append_entry, append_lost, begin, contains, is_backward, list_sectors,
+    planned_left, reshape_left, unassigned_roles,
+};
 
 // The number of a call that goes on is at most the number of entries.
 pub(crate) fn check_going(entries: &Entries, who: Who)

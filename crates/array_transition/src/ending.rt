@@ -24,8 +24,12 @@ ghost use Rattle.array_reshaping_steps.specs.array_specs_Plans.{ArePlansKept};
 ghost use Rattle.array_transition.specs.Ended.{ended_length, IsReshapeEnded};
 
 use crate::beginning::check_going;
-use array_fixed_sync::Array;
-use array_reshaping_steps::{Bank, Epoch, Event, Finished, Members, Array, PhasesLeft, Refusal, Role, StepKind, Who, Work, append_after_losses, append_entry, append_lost, final_in, finish, list_length, list_sectors, newly_unassigned, planned_left, shape_in, steps_left, too_many, unassigned_roles, with, without};
+use array_reshaping_steps::{
+    Array, Bank, Epoch, Event, Finished, Members, PhasesLeft, Refusal, Role, StepKind, Who, Work,
+    append_after_losses, append_entry, append_lost, final_in, finish, list_length, list_sectors,
+    newly_unassigned, planned_left, shape_in, steps_left, too_many, unassigned_roles, with,
+    without,
+};
 
 // The slots that hold a role below this one.
 fn holders_below(members: &Members, disks: u32) -> u32
@@ -172,10 +176,7 @@ fn enter_ended(epoch: &mut Epoch, who: Who, end: u64, left: u64, told: &EndTold)
 ///
 /// Refused `TooManyMissing` where a shape in force misses more roles than it tolerates, before the flush or behind it: the
 /// reshape goes on as it was, but for what the flush lost.
-pub fn finish_reshape<B: Bank>(
-    moving: Array<B>,
-    who: Who,
-) -> Result<Array<B>, (Array<B>, Refusal)>
+pub fn finish_reshape<B: Bank>(moving: Array<B>, who: Who) -> Result<Array<B>, (Array<B>, Refusal)>
     requires open { IsCallGoing moving.parts.entries who }
     requires caller { who.caller ≢ 254 }
     requires room { 2 ≤ moving.parts.steps }

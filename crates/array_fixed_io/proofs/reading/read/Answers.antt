@@ -478,11 +478,11 @@ synced_rows-mended-requires-clause-progress g c =
 pub read_listed-fetched-requires-clause-stands : goal.read_listed-fetched-requires-clause-stands
 read_listed-fetched-requires-clause-stands g c =
     record {
-  slots = (alike c.still.invariant).kept.slots;
-  placed = (alike c.still.invariant).kept.members_are.placed;
-  unlost = (alike c.still.invariant).kept.members_are.unlost;
-  free = (alike c.still.invariant).kept.members_are.free;
-}
+      slots = (alike c.still.invariant).kept.slots;
+      placed = (alike c.still.invariant).kept.members_are.placed;
+      unlost = (alike c.still.invariant).kept.members_are.unlost;
+      free = (alike c.still.invariant).kept.members_are.free;
+    }
 
 pub read_listed-fetched-requires-clause-into : goal.read_listed-fetched-requires-clause-into
 read_listed-fetched-requires-clause-into g c = whole-alike _ _ (ap (λ (l : List ℕ). length l) c.as_mut_slice.ensures.value ∙ c.in-Ok.ensures.len) c.requires.whole

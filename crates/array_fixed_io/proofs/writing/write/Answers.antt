@@ -444,11 +444,11 @@ are_synced-synced-requires-clause-progress g c =
 pub write_listed-done-requires-clause-stands : goal.write_listed-done-requires-clause-stands
 write_listed-done-requires-clause-stands g c =
     record {
-  slots = (alike c.still.invariant).kept.slots;
-  placed = (alike c.still.invariant).kept.members_are.placed;
-  unlost = (alike c.still.invariant).kept.members_are.unlost;
-  free = (alike c.still.invariant).kept.members_are.free;
-}
+      slots = (alike c.still.invariant).kept.slots;
+      placed = (alike c.still.invariant).kept.members_are.placed;
+      unlost = (alike c.still.invariant).kept.members_are.unlost;
+      free = (alike c.still.invariant).kept.members_are.free;
+    }
 
 pub write_listed-done-requires-clause-from : goal.write_listed-done-requires-clause-from
 write_listed-done-requires-clause-from g c = c.requires.whole

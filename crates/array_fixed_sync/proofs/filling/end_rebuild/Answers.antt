@@ -218,7 +218,7 @@ returns-then-is_unassigned-clause-good g c =
     let a = c.still.inside in
     let m = c.record_and_name-spares.new.members in
     let synced : a.work.resync ≡ None = subst (λ p. p.parts.work.resync ≡ None) (sym c.still.view_is) c.requires.synced in
-    λ t does fit row low. ((invariant_of-still g c).kept.listed t does (inr fit)).rows fit row (subst (λ o. row < synced_rows o m) (sym synced) low) low
+    λ t does fit row low. (((invariant_of-still g c).rests (c.record_and_name-spares.ensures.moved.reshape.reshaping ∙ (ap (λ p. is_reshaping p.parts.members.newest) c.still.view_is ∙ c.requires.still))).1.kept.listed t does (inr fit)).rows fit row (subst (λ o. row < synced_rows o m) (sym synced) low) low
 
 pub returns-then-is_unassigned-clause-held : goal.returns-then-is_unassigned-clause-held
 returns-then-is_unassigned-clause-held g c =
@@ -436,7 +436,7 @@ returns-clause-good g c =
     let a = c.still.inside in
     let m = c.record_and_name-spares.new.members in
     let synced : a.work.resync ≡ None = subst (λ p. p.parts.work.resync ≡ None) (sym c.still.view_is) c.requires.synced in
-    λ t does fit row low. ((invariant_of-still-2 g c).kept.listed t does (inr fit)).rows fit row (subst (λ o. row < synced_rows o m) (sym synced) low) low
+    λ t does fit row low. (((invariant_of-still-2 g c).rests (c.record_and_name-spares.ensures.moved.reshape.reshaping ∙ (ap (λ p. is_reshaping p.parts.members.newest) c.still.view_is ∙ c.requires.still))).1.kept.listed t does (inr fit)).rows fit row (subst (λ o. row < synced_rows o m) (sym synced) low) low
 
 pub returns-clause-held : goal.returns-clause-held
 returns-clause-held g c =

@@ -346,3 +346,9 @@ returns-in-Some-clause-still g c = c.refuse_step.ensures.still
 
 pub returns-clause-still : goal.returns-clause-still
 returns-clause-still g c = c.give_and_name-spares.ensures.moved.reshape.reshaping ∙ (ap (λ p. is_reshaping p.parts.members.newest) c.still.view_is ∙ c.requires.still)
+
+pub give_and_name-spares-requires-clause-unlost : goal.give_and_name-spares-requires-clause-unlost
+give_and_name-spares-requires-clause-unlost g c = (alike c.still.invariant).kept.members_are.unlost
+
+pub give_and_name-spares-requires-clause-free : goal.give_and_name-spares-requires-clause-free
+give_and_name-spares-requires-clause-free g c = (alike c.still.invariant).kept.members_are.free

@@ -237,7 +237,7 @@ returns-clause-caused g c =
     rw (← c.still.view_is) (omega arith, λ refusal many. never-both c.still.inside.members refusal c.in_default.ensures many)
 
 pub returns-clause-good : goal.returns-clause-good
-returns-clause-good g c = λ t does fit row low. ((invariant_of-still-2 g c).kept.listed t does (inr fit)).rows fit row low low
+returns-clause-good g c = λ t does fit row low. (((invariant_of-still-2 g c).rests (c.flush_and_mark-settled.ensures.keeps.moved.reshape.reshaping ∙ (ap (λ p. is_reshaping p.parts.members.newest) c.still.view_is ∙ c.requires.still))).1.kept.listed t does (inr fit)).rows fit row low low
 
 pub returns-clause-flushed : goal.returns-clause-flushed
 returns-clause-flushed g c =
@@ -344,13 +344,13 @@ returns-clause-given g c = c.flush_and_mark-settled.ensures.keeps.bank.same ∙ 
 pub flush_and_mark-settled-requires : goal.flush_and_mark-settled-requires
 flush_and_mark-settled-requires g c =
     record {
-  stands = record {
-    slots = (alike c.still.invariant).kept.slots;
-    placed = (alike c.still.invariant).kept.members_are.placed;
-    unlost = (alike c.still.invariant).kept.members_are.unlost;
-    free = (alike c.still.invariant).kept.members_are.free;
-  };
-}
+      stands = record {
+        slots = (alike c.still.invariant).kept.slots;
+        placed = (alike c.still.invariant).kept.members_are.placed;
+        unlost = (alike c.still.invariant).kept.members_are.unlost;
+        free = (alike c.still.invariant).kept.members_are.free;
+      };
+    }
 
 pub returns-in-Some-clause-still : goal.returns-in-Some-clause-still
 returns-in-Some-clause-still g c = c.refuse_step.ensures.still

@@ -211,3 +211,12 @@ pub returns-clause-good : goal.returns-clause-good
 returns-clause-good g c =
     not-end _ c.take_role.result
     (kind-taken c.args.still.now.parts.work c.args.still.now.parts.members (ap first_recovering (sym c.members.ensures) ∙ sym c.first_recovering.ensures ∙ c.in_default.is)) taken-no-end
+
+pub returns-then-rebuilt-stripes-clause-still : goal.returns-then-rebuilt-stripes-clause-still
+returns-then-rebuilt-stripes-clause-still g c = c.rebuild_stripe.ensures.still
+
+pub returns-in-Some-clause-still : goal.returns-in-Some-clause-still
+returns-in-Some-clause-still g c = c.end_rebuild.ensures.still
+
+pub returns-clause-still : goal.returns-clause-still
+returns-clause-still g c = c.take_role.ensures.still

@@ -59,3 +59,6 @@ returns-clause-stepped g c =
 pub returns-clause-open : goal.returns-clause-open
 returns-clause-open g c =
     still-going c.args.who c.ops-end.result (Refused c.args.refusal ∷ []) c.requires.open (tt, tt) (ap (λ p. p.parts.entries) c.still.view_is) c.append_entry.ensures.items
+
+pub returns-clause-still : goal.returns-clause-still
+returns-clause-still g c = (ap (λ p. is_reshaping p.parts.members.newest) c.still.view_is ∙ c.requires.still)

@@ -28,3 +28,9 @@ returns-else-eq-clause-caused g c =
 
 pub returns-then-eq-clause-good : goal.returns-then-eq-clause-good
 returns-then-eq-clause-good g c = ok-so c.end_resync.result (λ good end. good) c.end_resync.ensures.good
+
+pub returns-then-eq-clause-still : goal.returns-then-eq-clause-still
+returns-then-eq-clause-still g c = c.end_resync.ensures.still
+
+pub returns-else-eq-clause-still : goal.returns-else-eq-clause-still
+returns-else-eq-clause-still g c = c.resync_stripe.ensures.still

@@ -1,9 +1,10 @@
-use Rattle.std.proofs.Common.{ℕ, ◌≤◌, Option, sym, ◌∙◌, subst}
+use Rattle.std.proofs.Common.{ℕ, ◌≤◌, Option, sym, ◌∙◌, subst, ap}
 use Rattle.std.specs.Prelude.{IfSome}
 use Rattle.array_transition.proofs.sb_specs_ValidFields.{few-roles}
 use Rattle.array_grow.specs.Plans.{IsAside}
 use Rattle.array_grow.proofs.Parted.{backs-as, none-backs-as, never-both}
 use Rattle.array_grow.proofs.backing.can_back.Goals.{in-None, in-Some}
+use Rattle.array_transition.specs.sb_specs_Reading.{is_reshaping}
 use Rattle.array_grow.proofs.backing.can_back.Goals as goal
 
 pub is_aside-can-requires : goal.is_aside-can-requires
@@ -28,6 +29,9 @@ returns-clause-yes g c on =
 pub returns-clause-no : goal.returns-clause-no
 returns-clause-no g c off =
     none-backs-as c.args.still _ c.part_fixed-pieces.ensures.same (elim c.match-pieces.branch [
-  | in-None w ↦ absurd (never-both c.match-pieces.can w.can-is off)
-  | in-Some w ↦ (w.in-Some.slot, w.in-Some.is, w.is_aside-can.ensures.no (sym w.can-is ∙ off))
-])
+      | in-None w ↦ absurd (never-both c.match-pieces.can w.can-is off)
+      | in-Some w ↦ (w.in-Some.slot, w.in-Some.is, w.is_aside-can.ensures.no (sym w.can-is ∙ off))
+    ])
+
+pub returns-clause-still : goal.returns-clause-still
+returns-clause-still g c = ap (λ s. is_reshaping s.parts.members.newest) (c.of_fixed.ensures.same ∙ sym c.part_fixed-pieces.ensures.same) ∙ c.requires.still

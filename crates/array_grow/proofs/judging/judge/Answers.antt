@@ -1,7 +1,7 @@
-use Rattle.std.proofs.Common.{◌≡◌, ℕ, length, ◌∙◌, ap, subst}
+use Rattle.std.proofs.Common.{◌≡◌, ℕ, length, ◌∙◌, ap, subst, sym}
 use Rattle.std.specs.Prelude.{option_map}
 use Rattle.array_reply_specs.specs.bank_Given.{sizes}
-use Rattle.array_transition.specs.sb_specs_Reading.{list_length}
+use Rattle.array_transition.specs.sb_specs_Reading.{list_length, is_reshaping}
 use Rattle.array_transition.specs.reshape_request_Asked.{asked_of, grow_refusal}
 use Rattle.array_transition.specs.reshape_request_Left.{phases_of}
 use Rattle.array_transition.specs.array_specs_Parts.{visible_size, visible_in}
@@ -23,3 +23,6 @@ returns-clause-visible g c =
     let was = c.part_fixed-pieces.ensures.ready in
     let p = c.part_fixed-pieces.result in
     visible-as c.args.still _ c.part_fixed-pieces.ensures.same (visible-is (list_length p.members.newest) (list_length p.members.newest) p.limit p.epoch.entries.items was.sized was.limited)
+
+pub returns-clause-still : goal.returns-clause-still
+returns-clause-still g c = ap (λ s. is_reshaping s.parts.members.newest) (c.of_fixed.ensures.same ∙ sym c.part_fixed-pieces.ensures.same) ∙ c.requires.still

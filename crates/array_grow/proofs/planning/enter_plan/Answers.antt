@@ -160,3 +160,6 @@ returns-clause-goes g c =
     (planned-goes who end wish plan.result.steps (phases_of c.all_left-pieces.result) was.kept (planned-whole a wish taken) c.ops-end.ensures.count ahead none t
     (subst (λ (w : World). IsReliable w (p.epoch.entries.items ++ entries_of who end (Planned plan.result.steps wish ∷ []))) world_is
     (subst (λ (l : List Entry). IsReliable (world_in given tape (scope_in given c.append_entry.new.epoch.uuid c.append_entry.new.epoch.given p.backup) c.append_entry.new.epoch.first) l) c.append_entry.ensures.items right))))))
+
+pub returns-clause-still : goal.returns-clause-still
+returns-clause-still g c = ap (λ s. is_reshaping s.parts.members.newest) c.of_fixed.ensures.same ∙ c.part_fixed-pieces.ensures.ready.kept.members_are.still

@@ -1,4 +1,4 @@
-use Rattle.std.proofs.Common.{◌≡◌, ◌≤◌, Some, [], ◌∷◌, length, refl, subst, arith}
+use Rattle.std.proofs.Common.{◌≡◌, ◌≤◌, Some, [], ◌∷◌, length, refl, subst, arith, ap, ◌∙◌}
 use Rattle.std.specs.Prelude.{option_map}
 use Rattle.array_reply_specs.specs.bank_Given.{sizes}
 use Rattle.array_reply_specs.specs.history_the_Event_TheVariants.{Refused}
@@ -23,6 +23,7 @@ use Rattle.array_grow.proofs.Fitting.{told-by, first-of, refusal-fits}
 use Rattle.array_grow.proofs.Told.{reply-as, end-as}
 use Rattle.array_grow.proofs.Parted.{before-as, both-limit, both-ahead}
 use Rattle.array_transition.proofs.Parted.{room-for}
+use Rattle.array_transition.specs.sb_specs_Reading.{is_reshaping}
 use Rattle.array_grow.proofs.planning.enter_refusal.Goals as goal
 
 pub of_fixed-requires : goal.of_fixed-requires
@@ -99,3 +100,6 @@ returns-clause-ended g c =
     let p = c.part_fixed-pieces.result in
     end-as g.B.Bank.tape c.of_fixed.result _ c.of_fixed.ensures.same
     (ended-behind (g.B.Bank.tape p.bank) c.append_entry.new.epoch.first p.epoch.entries.items c.args.who c.ops-end.result [] (Refused c.args.refusal) c.append_entry.ensures.items c.ops-end.ensures.count)
+
+pub returns-clause-still : goal.returns-clause-still
+returns-clause-still g c = ap (λ s. is_reshaping s.parts.members.newest) c.of_fixed.ensures.same ∙ c.part_fixed-pieces.ensures.ready.kept.members_are.still

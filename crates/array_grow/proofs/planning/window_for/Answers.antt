@@ -1,8 +1,8 @@
-use Rattle.std.proofs.Common.{◌≡◌, ◌*◌, ◌≤◌, None, length, arith, subst}
+use Rattle.std.proofs.Common.{◌≡◌, ◌*◌, ◌≤◌, None, length, arith, subst, ap, ◌∙◌, sym}
 use Rattle.std.specs.Prelude.{option_map}
 use Rattle.array_reply_specs.specs.bank_Given.{sizes}
 use Rattle.array_transition.specs.reshape_plan_Plans.{phases, largest_window}
-use Rattle.array_transition.specs.sb_specs_Reading.{shape_of}
+use Rattle.array_transition.specs.sb_specs_Reading.{shape_of, is_reshaping}
 use Rattle.array_transition.specs.reshape_request_Asked.{asked_of, grow_refusal}
 use Rattle.array_transition.specs.reshape_request_Left.{phases_of}
 use Rattle.array_transition.proofs.reshape_request_FirstLaws.{unrefused-plan}
@@ -33,3 +33,6 @@ returns-clause-wide g c =
     rw (c.part_fixed-pieces.ensures.same)
     (ok-map c.zeros-made.result (λ v. length v.items ≡ c.plan_of-plan.result.window * 512) (λ v. 512 * largest_window (shape_of p.members.newest) p.members.newest.size (phases (shape_of p.members.newest) c.args.wish.now) ≤ length v.items)
     (λ v is. omega (arith, is, window)) c.zeros-made.ensures.len)
+
+pub returns-clause-still : goal.returns-clause-still
+returns-clause-still g c = ap (λ s. is_reshaping s.parts.members.newest) (c.of_fixed.ensures.same ∙ sym c.part_fixed-pieces.ensures.same) ∙ c.requires.still

@@ -1,7 +1,7 @@
 use Rattle.std.proofs.Common.{◌≡◌, [], ◌∷◌, ◌++◌, List, refl, ◌∙◌, ap, subst, arith}
 use Rattle.array_reply_specs.specs.raid_types_the_Refusal_TheVariants.{Busy}
 use Rattle.array_reply_specs.specs.raid_types_the_BusyKind_TheVariants.{Reshape}
-use Rattle.array_transition.specs.sb_specs_Reading.{list_length}
+use Rattle.array_transition.specs.sb_specs_Reading.{list_length, is_reshaping}
 use Rattle.array_reply_specs.specs.history_the_Entry.{Entry}
 use Rattle.array_reply_specs.specs.history_the_Event_TheVariants.{Refused}
 use Rattle.array_reply_specs.specs.history_Flat.{next_number}
@@ -67,3 +67,9 @@ returns-in-Err-clause-visible g c =
     let was = c.part_reshaping-pieces.ensures.ready in
     let p = c.part_reshaping-pieces.result.0 in
     visible-as c.args.moving _ c.part_reshaping-pieces.ensures.same (visible-is (list_length p.members.newest) (list_length p.members.newest) p.limit p.epoch.entries.items was.sized was.limited)
+
+pub returns-clause-active : goal.returns-clause-active
+returns-clause-active g c = ap (λ s. is_reshaping s.parts.members.newest) c.of_reshaping-moving-2.ensures.same ∙ c.part_reshaping-pieces.ensures.ready.kept.members_are.active
+
+pub returns-in-Err-clause-active : goal.returns-in-Err-clause-active
+returns-in-Err-clause-active g c = ap (λ s. is_reshaping s.parts.members.newest) c.of_reshaping-moving.ensures.same ∙ c.part_reshaping-pieces.ensures.ready.kept.members_are.active

@@ -2,7 +2,7 @@ use Rattle.std.proofs.Common.{◌≡◌, ℕ, ◌≤◌, ◌-◌, Option, List, 
 use Rattle.std.specs.Prelude.{IfSome}
 use Rattle.reshape_sb_takeover.proofs.raid_layout_Limits.{limited}
 use Rattle.array_fixed_io.specs.reshape_plan_Plans.{AreSound}
-use Rattle.array_fixed_io.specs.sb_specs_Reading.{shape_of}
+use Rattle.array_fixed_io.specs.sb_specs_Reading.{shape_of, is_reshaping}
 use Rattle.array_fixed_io.proofs.sb_specs_ValidFields.{few-roles}
 use Rattle.array_fixed_io.specs.history_the_Entry.{Entry}
 use Rattle.array_fixed_io.specs.history_the_Event_TheVariants.{Step}
@@ -241,11 +241,11 @@ check_going-requires g c = subst (λ s. IsCallGoing s.parts.entries c.args.who) 
 pub take_over-spares-requires-clause-stands : goal.take_over-spares-requires-clause-stands
 take_over-spares-requires-clause-stands g c =
     record {
-  slots = c.part_fixed-pieces.ensures.ready.kept.slots;
-  placed = c.part_fixed-pieces.ensures.ready.kept.members_are.placed;
-  unlost = c.part_fixed-pieces.ensures.ready.kept.members_are.unlost;
-  free = c.part_fixed-pieces.ensures.ready.kept.members_are.free;
-}
+      slots = c.part_fixed-pieces.ensures.ready.kept.slots;
+      placed = c.part_fixed-pieces.ensures.ready.kept.members_are.placed;
+      unlost = c.part_fixed-pieces.ensures.ready.kept.members_are.unlost;
+      free = c.part_fixed-pieces.ensures.ready.kept.members_are.free;
+    }
 
 pub take_over-spares-requires-clause-still : goal.take_over-spares-requires-clause-still
 take_over-spares-requires-clause-still g c = c.part_fixed-pieces.ensures.ready.kept.members_are.still
@@ -269,3 +269,11 @@ returns-clause-given g c =
 
 pub told_of-told-requires-clause-shape : goal.told_of-told-requires-clause-shape
 told_of-told-requires-clause-shape g c = c.take_over-spares.ensures.newest.shape
+
+-- ---- whether a reshape is active
+
+pub returns-in-Err-clause-left_still : goal.returns-in-Err-clause-left_still
+returns-in-Err-clause-left_still g c = c.give_back.ensures.still
+
+pub returns-clause-still : goal.returns-clause-still
+returns-clause-still g c = ap (λ s. is_reshaping s.parts.members.newest) c.of_fixed.ensures.same ∙ c.take_over-spares.ensures.newest.still

@@ -8,7 +8,7 @@ use Rattle.array_reshaping_steps.proofs.raid_layout_Limits.{limited}
 use Rattle.array_reshaping_steps.specs.reshape_geometry_Geometry.{list_end}
 use Rattle.array_reshaping_steps.specs.reshape_plan_Plans.{AreSound, phase_window}
 use Rattle.array_reshaping_steps.specs.sb_specs_the_Members.{Members}
-use Rattle.array_reshaping_steps.specs.sb_specs_Reading.{shape_of, list_length}
+use Rattle.array_reshaping_steps.specs.sb_specs_Reading.{shape_of, list_length, is_reshaping}
 use Rattle.array_reshaping_steps.proofs.sb_specs_ValidFields.{few-roles}
 use Rattle.array_reshaping_steps.specs.history_the_Entry.{Entry}
 use Rattle.array_reshaping_steps.specs.history_the_Event_TheVariants.{Step, Refused}
@@ -103,8 +103,8 @@ returns-then-not-contains-clause-never_falls g c =
 
 -- ---- the backup failed
 
-pub of_pieces-requires : goal.of_pieces-requires
-of_pieces-requires g c =
+pub of_fixed-requires : goal.of_fixed-requires
+of_fixed-requires g c =
     let p = c.part_fixed-pieces.result in
     let same = c.part_fixed-pieces.ensures.same in
     let was = c.part_fixed-pieces.ensures.ready in
@@ -146,7 +146,7 @@ returns-in-Some-refusal-clause-refused g c =
     let end = c.ops-end.result in
     let refusal = c.in-Some-refusal.refusal in
     let some : 1 ≤ p.steps = subst (λ s. 1 ≤ s.parts.steps) c.part_fixed-pieces.ensures.same c.requires.room in
-    back-as g.B.Bank.given g.B.Bank.tape c.args.who refusal c.args.still c.of_pieces.result _ _ c.part_fixed-pieces.ensures.same c.of_pieces.ensures.same (record {
+    back-as g.B.Bank.given g.B.Bank.tape c.args.who refusal c.args.still c.of_fixed.result _ _ c.part_fixed-pieces.ensures.same c.of_fixed.ensures.same (record {
       end = end;
       entered = c.append_entry.ensures.items;
       ended = ended-behind (g.B.Bank.tape c.begin-begun.new.bank) c.append_entry.new.epoch.first p.epoch.entries.items c.args.who end [] (Refused refusal) c.append_entry.ensures.items c.ops-end.ensures.count;
@@ -163,7 +163,7 @@ returns-in-Some-refusal-clause-caused g c =
     let p = c.part_fixed-pieces.result in
     let refusal = c.in-Some-refusal.refusal in
     let is = c.in-Some-refusal.is in
-    refused-as g.B.Bank.faults_of c.args.to refusal c.args.still c.of_pieces.result _ _ c.part_fixed-pieces.ensures.same c.of_pieces.ensures.same (inr (
+    refused-as g.B.Bank.faults_of c.args.to refusal c.args.still c.of_fixed.result _ _ c.part_fixed-pieces.ensures.same c.of_fixed.ensures.same (inr (
       c.in_default.ensures,
       (c.begin-begun.ensures.answer refusal is).0,
       subst (λ (o : Option ℕ). IfSome o (λ slot. IsFaulted slot (g.B.Bank.faults_of p.bank) (g.B.Bank.faults_of c.begin-begun.new.bank))) (sym c.in-Some-backup.is) (c.begin-begun.ensures.refused refusal is).failed,
@@ -171,7 +171,7 @@ returns-in-Some-refusal-clause-caused g c =
 
 pub returns-in-Some-refusal-clause-never_falls : goal.returns-in-Some-refusal-clause-never_falls
 returns-in-Some-refusal-clause-never_falls g c =
-    both-fall-as g.B.Bank.faults_of c.args.still c.of_pieces.result _ _ c.part_fixed-pieces.ensures.same c.of_pieces.ensures.same c.begin-begun.ensures.bank.counts
+    both-fall-as g.B.Bank.faults_of c.args.still c.of_fixed.result _ _ c.part_fixed-pieces.ensures.same c.of_fixed.ensures.same c.begin-begun.ensures.bank.counts
 
 -- ---- the steps that are left
 
@@ -202,8 +202,8 @@ told_of-told-requires-clause-roles g c = (c.begin-begun.ensures.moved c.in_defau
 
 -- ---- it has begun
 
-pub of_pieces-requires-2-clause-ready : goal.of_pieces-requires-2-clause-ready
-of_pieces-requires-2-clause-ready g c =
+pub of_reshaping-requires-clause-ready : goal.of_reshaping-requires-clause-ready
+of_reshaping-requires-clause-ready g c =
     let p = c.part_fixed-pieces.result in
     let same = c.part_fixed-pieces.ensures.same in
     let given = g.B.Bank.given p.bank in
@@ -280,7 +280,7 @@ returns-clause-begun g c =
     let items = c.enter_begun.ensures.items ∙ (λ i. p.epoch.entries.items ++ entries_of who end (Step Begun (left_in_is i) ∷ begun_length (back_is i) (size_is i) ++ losses_of roles (spares_is i))) in
     let since = lost-since given p.members to are.placed are.unlost are.free are.still sound.0 sound.1 c.in_default.ensures new roles spares (g.B.Bank.faults_of p.bank) (g.B.Bank.faults_of c.begin-begun.new.bank)
     (did.moved none) (did.failed none) c.told_of-told.ensures.roles in
-    begun-as g.B.Bank.given g.B.Bank.tape g.B.Bank.faults_of who to behind c.args.still c.of_pieces-2.result _ _ same c.of_pieces-2.ensures.same (record {
+    begun-as g.B.Bank.given g.B.Bank.tape g.B.Bank.faults_of who to behind c.args.still c.of_reshaping.result _ _ same c.of_reshaping.ensures.same (record {
       could = c.in_default.ensures;
       entered = record { roles = roles; spares = spares; end = end; roles_told = since-told new roles (did.moved none).placed.roles c.told_of-told.ensures.roles; spares_told = (did.failed none).told; spares_were = did.spares none; is = items };
       ended = λ t. ap (λ (l : List Entry). last_end_from c.enter_begun.new.epoch.first l) items
@@ -429,15 +429,28 @@ returns-then-not-contains-clause-left_given g c =
 
 pub returns-in-Some-refusal-clause-grows : goal.returns-in-Some-refusal-clause-grows
 returns-in-Some-refusal-clause-grows g c =
-    both-grow g.B.Bank.tape c.args.still c.of_pieces.result _ _ c.part_fixed-pieces.ensures.same c.of_pieces.ensures.same c.begin-begun.ensures.bank.grows
+    both-grow g.B.Bank.tape c.args.still c.of_fixed.result _ _ c.part_fixed-pieces.ensures.same c.of_fixed.ensures.same c.begin-begun.ensures.bank.grows
 
 pub returns-in-Some-refusal-clause-left_given : goal.returns-in-Some-refusal-clause-left_given
 returns-in-Some-refusal-clause-left_given g c =
-    both-given g.B.Bank.given c.args.still c.of_pieces.result _ _ c.part_fixed-pieces.ensures.same c.of_pieces.ensures.same c.begin-begun.ensures.bank.same
+    both-given g.B.Bank.given c.args.still c.of_fixed.result _ _ c.part_fixed-pieces.ensures.same c.of_fixed.ensures.same c.begin-begun.ensures.bank.same
 
 pub returns-clause-given : goal.returns-clause-given
 returns-clause-given g c =
-    both-given g.B.Bank.given c.args.still c.of_pieces-2.result _ _ c.part_fixed-pieces.ensures.same c.of_pieces-2.ensures.same c.begin-begun.ensures.bank.same
+    both-given g.B.Bank.given c.args.still c.of_reshaping.result _ _ c.part_fixed-pieces.ensures.same c.of_reshaping.ensures.same c.begin-begun.ensures.bank.same
 
--- by hand: ['Still', 'Moving'] for of_pieces in their order
+-- ---- whether a reshape is active
 
+pub returns-in-Some-clause-left_still : goal.returns-in-Some-clause-left_still
+returns-in-Some-clause-left_still g c = c.give_back.ensures.still
+
+pub returns-then-not-contains-clause-left_still : goal.returns-then-not-contains-clause-left_still
+returns-then-not-contains-clause-left_still g c = c.fail_backup-still.ensures.still
+
+pub returns-in-Some-refusal-clause-left_still : goal.returns-in-Some-refusal-clause-left_still
+returns-in-Some-refusal-clause-left_still g c =
+    ap (λ s. is_reshaping s.parts.members.newest) c.of_fixed.ensures.same
+    ∙ (ap (λ (m : Members). is_reshaping m.newest) (c.begin-begun.ensures.refused c.in-Some-refusal.refusal c.in-Some-refusal.is).members ∙ c.part_fixed-pieces.ensures.ready.kept.members_are.still)
+
+pub returns-clause-active : goal.returns-clause-active
+returns-clause-active g c = ap (λ s. is_reshaping s.parts.members.newest) c.of_reshaping.ensures.same ∙ (c.begin-begun.ensures.newest c.in_default-refusal.is).active

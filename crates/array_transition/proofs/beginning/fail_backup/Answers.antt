@@ -44,3 +44,6 @@ returns-clause-back g c =
       steps = back.steps;
       same = record { uuid = back.same.uuid; given = back.same.given; first = back.same.first; backup = back.same.backup; work = back.same.work; limit = back.same.limit };
     }
+
+pub returns-clause-still : goal.returns-clause-still
+returns-clause-still g c = c.give_back.ensures.still

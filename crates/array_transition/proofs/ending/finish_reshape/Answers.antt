@@ -5,7 +5,7 @@ use Rattle.array_reshaping_steps.specs.raid_types_Shapes.{has_slot, data_disks}
 use Rattle.array_reshaping_steps.specs.raid_types_the_Refusal.{Refusal}
 use Rattle.array_reshaping_steps.specs.raid_types_the_Shape.{Shape}
 use Rattle.array_reshaping_steps.specs.reshape_plan_Plans.{AreSound}
-use Rattle.array_reshaping_steps.specs.sb_specs_Reading.{shape_of, list_length, holder}
+use Rattle.array_reshaping_steps.specs.sb_specs_Reading.{shape_of, list_length, holder, is_reshaping}
 use Rattle.array_reshaping_steps.proofs.sb_specs_ValidFields.{few-roles}
 use Rattle.array_reshaping_steps.specs.stripe_row_Rows.{reading_of}
 use Rattle.array_reshaping_steps.specs.history_the_Event.{Event}
@@ -52,8 +52,8 @@ use Rattle.array_transition.proofs.ending.finish_reshape.Goals as goal
 
 -- ---- refused before anything is done
 
-pub of_pieces-requires-clause-ready : goal.of_pieces-requires-clause-ready
-of_pieces-requires-clause-ready g c =
+pub of_reshaping-requires-clause-ready : goal.of_reshaping-requires-clause-ready
+of_reshaping-requires-clause-ready g c =
     let p = c.part_reshaping-pieces.result.0 in
     let course = c.part_reshaping-pieces.result.1 in
     let window = c.part_reshaping-pieces.result.2 in
@@ -74,10 +74,10 @@ of_pieces-requires-clause-ready g c =
 
 pub returns-in-Some-too_many-clause-refused : goal.returns-in-Some-too_many-clause-refused
 returns-in-Some-too_many-clause-refused g c =
-    behind-as c.args.who (Refused c.in-Some-too_many.refusal) c.args.moving c.of_pieces.result _ _ c.part_reshaping-pieces.ensures.same c.of_pieces.ensures.same (behind-alone c.args.who c.ops-end.result (Refused c.in-Some-too_many.refusal) refl c.append_entry.ensures.items)
+    behind-as c.args.who (Refused c.in-Some-too_many.refusal) c.args.moving c.of_reshaping.result _ _ c.part_reshaping-pieces.ensures.same c.of_reshaping.ensures.same (behind-alone c.args.who c.ops-end.result (Refused c.in-Some-too_many.refusal) refl c.append_entry.ensures.items)
 
 pub returns-in-Some-too_many-clause-caused : goal.returns-in-Some-too_many-clause-caused
-returns-in-Some-too_many-clause-caused g c = many-as c.of_pieces.result _ c.in-Some-too_many.refusal c.of_pieces.ensures.same c.in-Some-too_many.ensures
+returns-in-Some-too_many-clause-caused g c = many-as c.of_reshaping.result _ c.in-Some-too_many.refusal c.of_reshaping.ensures.same c.in-Some-too_many.ensures
 
 pub returns-in-Some-too_many-clause-called : goal.returns-in-Some-too_many-clause-called
 returns-in-Some-too_many-clause-called g c =
@@ -88,7 +88,7 @@ returns-in-Some-too_many-clause-called g c =
     let who = c.args.who in
     let end = c.ops-end.result in
     let refusal = c.in-Some-too_many.refusal in
-    called-as g.B.Bank.given g.B.Bank.tape g.B.Bank.faults_of c.args.moving c.of_pieces.result _ _ c.part_reshaping-pieces.ensures.same c.of_pieces.ensures.same
+    called-as g.B.Bank.given g.B.Bank.tape g.B.Bank.faults_of c.args.moving c.of_reshaping.result _ _ c.part_reshaping-pieces.ensures.same c.of_reshaping.ensures.same
     (called (grows-none (λ t. refl)) (moved-same given given p.members p.members refl refl was.kept.members_are.placed was.kept.members_are.unlost)
     (ended-behind (g.B.Bank.tape p.bank) c.append_entry.new.epoch.first p.epoch.entries.items who end [] (Refused refusal) c.append_entry.ensures.items c.ops-end.ensures.count)
     (alone-lossless p.members faults faults p.epoch.entries.items p.epoch.entries.items c.append_entry.new.epoch.entries.items who end (Refused refusal) tt refl c.append_entry.ensures.items)
@@ -143,8 +143,8 @@ told_of-told-requires-clause-size g c = fit-short c.finish-done.new.members.newe
 
 -- ---- refused behind the flush
 
-pub of_pieces-requires-in-Some-refusal-clause-ready : goal.of_pieces-requires-in-Some-refusal-clause-ready
-of_pieces-requires-in-Some-refusal-clause-ready g c =
+pub of_reshaping-requires-in-Some-refusal-clause-ready : goal.of_reshaping-requires-in-Some-refusal-clause-ready
+of_reshaping-requires-in-Some-refusal-clause-ready g c =
     let p = c.part_reshaping-pieces.result.0 in
     let course = c.part_reshaping-pieces.result.1 in
     let was = c.part_reshaping-pieces.ensures.ready in
@@ -182,7 +182,7 @@ pub returns-in-Some-refusal-clause-caused : goal.returns-in-Some-refusal-clause-
 returns-in-Some-refusal-clause-caused g c =
     let p = c.part_reshaping-pieces.result.0 in
     let m = c.finish-done.new.members in
-    many-as c.of_pieces-in-Some-refusal.result _ c.in-Some-refusal.refusal c.of_pieces-in-Some-refusal.ensures.same (subst (λ (o : Option Refusal). MatchOption o (IsOver p.members.newest m.newest) (AreTooMany m)) c.in-Some-refusal.is c.finish-done.ensures.answer)
+    many-as c.of_reshaping-in-Some-refusal.result _ c.in-Some-refusal.refusal c.of_reshaping-in-Some-refusal.ensures.same (subst (λ (o : Option Refusal). MatchOption o (IsOver p.members.newest m.newest) (AreTooMany m)) c.in-Some-refusal.is c.finish-done.ensures.answer)
 
 pub returns-in-Some-refusal-clause-called : goal.returns-in-Some-refusal-clause-called
 returns-in-Some-refusal-clause-called g c =
@@ -206,7 +206,7 @@ returns-in-Some-refusal-clause-called g c =
     let since = lost-since given p.members m c.before_end-was.result.count vacant roles spares before after here.placed moved failed
     (c.before_end-was.ensures.count ∙ here.placed.roles)
     (λ role. c.before_end-was.ensures.vacant role ∙ ap (λ (n : ℕ). nat_lt role n && is_unassigned (reading_of p.members) role) (sym c.before_end-was.ensures.count)) c.newly_unassigned-roles.ensures in
-    called-as g.B.Bank.given g.B.Bank.tape g.B.Bank.faults_of c.args.moving c.of_pieces-in-Some-refusal.result _ _ c.part_reshaping-pieces.ensures.same c.of_pieces-in-Some-refusal.ensures.same (called did.bank.grows moved
+    called-as g.B.Bank.given g.B.Bank.tape g.B.Bank.faults_of c.args.moving c.of_reshaping-in-Some-refusal.result _ _ c.part_reshaping-pieces.ensures.same c.of_reshaping-in-Some-refusal.ensures.same (called did.bank.grows moved
     (ended-behind (g.B.Bank.tape c.finish-done.new.bank) c.append_after_losses.new.epoch.first p.epoch.entries.items who end (losses_of roles spares) (Refused refusal) c.append_after_losses.ensures.items c.ops-end-2.ensures.count)
     (losses-behind p.members m before after p.epoch.entries.items p.epoch.entries.items c.append_after_losses.new.epoch.entries.items who end roles spares (Refused refusal) since tt refl c.append_after_losses.ensures.items)
     did.bank.counts
@@ -215,8 +215,8 @@ returns-in-Some-refusal-clause-called g c =
 
 -- ---- it is done
 
-pub of_pieces-requires-2 : goal.of_pieces-requires-2
-of_pieces-requires-2 g c =
+pub of_fixed-requires : goal.of_fixed-requires
+of_fixed-requires g c =
     let p = c.part_reshaping-pieces.result.0 in
     let same = c.part_reshaping-pieces.ensures.same in
     let was = c.part_reshaping-pieces.ensures.ready in
@@ -304,7 +304,7 @@ returns-clause-ended g c =
     let items = entered
     ∙ ap (λ (l : List Event). p.epoch.entries.items ++ entries_of who end (losses_of roles spares ++ Step Finished (still_left p.work m p.ahead) ∷ (l ++ losses_of told.late told.late_spares)))
     (length-same (nat_lt (list_length p.members.newest) (list_length m.newest)) (list_length m.newest)) in
-    ended-as g.B.Bank.given g.B.Bank.tape g.B.Bank.faults_of who c.args.moving c.of_pieces-2.result _ _ same c.of_pieces-2.ensures.same (record {
+    ended-as g.B.Bank.given g.B.Bank.tape g.B.Bank.faults_of who c.args.moving c.of_fixed.result _ _ same c.of_fixed.ensures.same (record {
       could = λ refusal many. never-both p.members refusal c.in_default-too_many.ensures many;
       entered = record {
         roles = roles;
@@ -373,11 +373,11 @@ before_end-was-requires-clause-roles g c = c.part_reshaping-pieces.ensures.ready
 pub finish-done-requires-clause-stands : goal.finish-done-requires-clause-stands
 finish-done-requires-clause-stands g c =
     record {
-  slots = c.part_reshaping-pieces.ensures.ready.kept.slots;
-  placed = c.part_reshaping-pieces.ensures.ready.kept.members_are.placed;
-  unlost = c.part_reshaping-pieces.ensures.ready.kept.members_are.unlost;
-  free = c.part_reshaping-pieces.ensures.ready.kept.members_are.free;
-}
+      slots = c.part_reshaping-pieces.ensures.ready.kept.slots;
+      placed = c.part_reshaping-pieces.ensures.ready.kept.members_are.placed;
+      unlost = c.part_reshaping-pieces.ensures.ready.kept.members_are.unlost;
+      free = c.part_reshaping-pieces.ensures.ready.kept.members_are.free;
+    }
 
 pub finish-done-requires-clause-active : goal.finish-done-requires-clause-active
 finish-done-requires-clause-active g c = c.part_reshaping-pieces.ensures.ready.kept.members_are.active
@@ -402,36 +402,36 @@ told_of-told-requires-clause-shape g c = c.finish-done.ensures.placed.fit.valid.
 -- ---- what is as it was
 
 pub returns-in-Some-too_many-clause-course : goal.returns-in-Some-too_many-clause-course
-returns-in-Some-too_many-clause-course g c = both-course c.args.moving c.of_pieces.result _ _ c.part_reshaping-pieces.ensures.same c.of_pieces.ensures.same refl
+returns-in-Some-too_many-clause-course g c = both-course c.args.moving c.of_reshaping.result _ _ c.part_reshaping-pieces.ensures.same c.of_reshaping.ensures.same refl
 
 pub returns-in-Some-too_many-clause-steps : goal.returns-in-Some-too_many-clause-steps
 returns-in-Some-too_many-clause-steps g c =
-    both-steps 2 c.args.moving c.of_pieces.result _ _ c.part_reshaping-pieces.ensures.same c.of_pieces.ensures.same refl (subst (λ s. 2 ≤ s.parts.steps) c.part_reshaping-pieces.ensures.same c.requires.room)
+    both-steps 2 c.args.moving c.of_reshaping.result _ _ c.part_reshaping-pieces.ensures.same c.of_reshaping.ensures.same refl (subst (λ s. 2 ≤ s.parts.steps) c.part_reshaping-pieces.ensures.same c.requires.room)
 
 pub returns-in-Some-too_many-clause-left_given : goal.returns-in-Some-too_many-clause-left_given
 returns-in-Some-too_many-clause-left_given g c =
-    both-given g.B.Bank.given c.args.moving c.of_pieces.result _ _ c.part_reshaping-pieces.ensures.same c.of_pieces.ensures.same refl
+    both-given g.B.Bank.given c.args.moving c.of_reshaping.result _ _ c.part_reshaping-pieces.ensures.same c.of_reshaping.ensures.same refl
 
 pub returns-in-Some-refusal-clause-course : goal.returns-in-Some-refusal-clause-course
 returns-in-Some-refusal-clause-course g c =
-    both-course c.args.moving c.of_pieces-in-Some-refusal.result _ _ c.part_reshaping-pieces.ensures.same c.of_pieces-in-Some-refusal.ensures.same refl
+    both-course c.args.moving c.of_reshaping-in-Some-refusal.result _ _ c.part_reshaping-pieces.ensures.same c.of_reshaping-in-Some-refusal.ensures.same refl
 
 pub returns-in-Some-refusal-clause-steps : goal.returns-in-Some-refusal-clause-steps
 returns-in-Some-refusal-clause-steps g c =
-    both-steps 2 c.args.moving c.of_pieces-in-Some-refusal.result _ _ c.part_reshaping-pieces.ensures.same c.of_pieces-in-Some-refusal.ensures.same refl (subst (λ s. 2 ≤ s.parts.steps) c.part_reshaping-pieces.ensures.same c.requires.room)
+    both-steps 2 c.args.moving c.of_reshaping-in-Some-refusal.result _ _ c.part_reshaping-pieces.ensures.same c.of_reshaping-in-Some-refusal.ensures.same refl (subst (λ s. 2 ≤ s.parts.steps) c.part_reshaping-pieces.ensures.same c.requires.room)
 
 pub returns-in-Some-refusal-clause-left_given : goal.returns-in-Some-refusal-clause-left_given
 returns-in-Some-refusal-clause-left_given g c =
-    both-given g.B.Bank.given c.args.moving c.of_pieces-in-Some-refusal.result _ _ c.part_reshaping-pieces.ensures.same c.of_pieces-in-Some-refusal.ensures.same c.finish-done.ensures.bank.same
+    both-given g.B.Bank.given c.args.moving c.of_reshaping-in-Some-refusal.result _ _ c.part_reshaping-pieces.ensures.same c.of_reshaping-in-Some-refusal.ensures.same c.finish-done.ensures.bank.same
 
 pub returns-in-Some-refusal-clause-refused : goal.returns-in-Some-refusal-clause-refused
 returns-in-Some-refusal-clause-refused g c =
-    behind-as c.args.who (Refused c.in-Some-refusal.refusal) c.args.moving c.of_pieces-in-Some-refusal.result _ _ c.part_reshaping-pieces.ensures.same c.of_pieces-in-Some-refusal.ensures.same
+    behind-as c.args.who (Refused c.in-Some-refusal.refusal) c.args.moving c.of_reshaping-in-Some-refusal.result _ _ c.part_reshaping-pieces.ensures.same c.of_reshaping-in-Some-refusal.ensures.same
     (record { roles = c.newly_unassigned-roles.result; spares = c.finish-done.result.spares; end = c.ops-end-2.result; is = c.append_after_losses.ensures.items })
 
 pub returns-clause-given : goal.returns-clause-given
 returns-clause-given g c =
-    both-given g.B.Bank.given c.args.moving c.of_pieces-2.result _ _ c.part_reshaping-pieces.ensures.same c.of_pieces-2.ensures.same c.finish-done.ensures.bank.same
+    both-given g.B.Bank.given c.args.moving c.of_fixed.result _ _ c.part_reshaping-pieces.ensures.same c.of_fixed.ensures.same c.finish-done.ensures.bank.same
 
 pub ended_left-left-requires-clause-sound : goal.ended_left-left-requires-clause-sound
 ended_left-left-requires-clause-sound g c =
@@ -440,5 +440,17 @@ ended_left-left-requires-clause-sound g c =
     let over = subst (λ (o : Option Refusal). MatchOption o (IsOver p.members.newest m.newest) (AreTooMany m)) c.in_default-refusal.is c.finish-done.ensures.answer in
     subst (λ (n : ℕ). AreSound (shape_of m.newest) n (phases_of p.ahead)) (sym over.size) (subst (λ (s : Shape). AreSound s p.members.newest.size (phases_of p.ahead)) (sym over.shape) c.part_reshaping-pieces.ensures.ready.planned)
 
--- by hand: ['Moving', 'Moving', 'Still'] for of_pieces in their order
+-- ---- whether a reshape is active
 
+pub returns-in-Some-too_many-clause-left_active : goal.returns-in-Some-too_many-clause-left_active
+returns-in-Some-too_many-clause-left_active g c = ap (λ s. is_reshaping s.parts.members.newest) c.of_reshaping.ensures.same ∙ c.part_reshaping-pieces.ensures.ready.kept.members_are.active
+
+pub returns-in-Some-refusal-clause-left_active : goal.returns-in-Some-refusal-clause-left_active
+returns-in-Some-refusal-clause-left_active g c =
+    ap (λ s. is_reshaping s.parts.members.newest) c.of_reshaping-in-Some-refusal.ensures.same
+    ∙ ((c.finish-done.ensures.refused c.in-Some-refusal.refusal c.in-Some-refusal.is).1.reshape.reshaping ∙ c.part_reshaping-pieces.ensures.ready.kept.members_are.active)
+
+pub returns-clause-still : goal.returns-clause-still
+returns-clause-still g c =
+    let over = subst (λ (o : Option Refusal). MatchOption o (IsOver c.part_reshaping-pieces.result.0.members.newest c.finish-done.new.members.newest) (AreTooMany c.finish-done.new.members)) c.in_default-refusal.is c.finish-done.ensures.answer in
+    ap (λ s. is_reshaping s.parts.members.newest) c.of_fixed.ensures.same ∙ over.still

@@ -15,11 +15,11 @@ apart false b c = refl
 pub returns : goal.returns
 returns c role =
     elim (cases_lt role 32) [
-  | inl below ↦ c.without.ensures role below ∙ ap (λ (b : Bool). b && not (has_slot c.args.roles role)) (c.newly_unassigned.ensures role)
-      ∙ apart (nat_lt role c.args.disks && is_unassigned (reading_of c.args.members.now) role) (has_slot c.args.first role) (has_slot c.args.roles role)
-  | inr above ↦ none_above c.without.result role (omega arith) above
-      ∙ sym (ap (λ (b : Bool). (b && is_unassigned (reading_of c.args.members.now) role) && not (has_slot c.args.first role || has_slot c.args.roles role)) (past above))
-]
+      | inl below ↦ c.without.ensures role below ∙ ap (λ (b : Bool). b && not (has_slot c.args.roles role)) (c.newly_unassigned.ensures role)
+          ∙ apart (nat_lt role c.args.disks && is_unassigned (reading_of c.args.members.now) role) (has_slot c.args.first role) (has_slot c.args.roles role)
+      | inr above ↦ none_above c.without.result role (omega arith) above
+          ∙ sym (ap (λ (b : Bool). (b && is_unassigned (reading_of c.args.members.now) role) && not (has_slot c.args.first role || has_slot c.args.roles role)) (past above))
+    ]
   where
     past : 32 ≤ role → nat_lt role c.args.disks ≡ false
     past above = let few = c.requires.few in grind (arith, nat_tests, above, few)

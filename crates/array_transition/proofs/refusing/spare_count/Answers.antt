@@ -14,13 +14,13 @@ overflow_add-count c =
 pub loop-slot-preserved : goal.loop-slot-preserved
 loop-slot-preserved c =
     elim c.if-is_spare.branch [
-  | then-is_spare w ↦
-      count_step c.loop-slot.slot (has_spare c.args.members.now.spares) c.is_spare.result c.loop-slot.count c.if-is_spare.count c.loop-slot.invariant c.is_spare.ensures
-      (rw w.if-is_spare.true (omega (arith, w.count-is)))
-  | else-is_spare w ↦
-      count_step c.loop-slot.slot (has_spare c.args.members.now.spares) c.is_spare.result c.loop-slot.count c.if-is_spare.count c.loop-slot.invariant c.is_spare.ensures
-      (rw w.if-is_spare.false (omega (arith, w.count-is)))
-]
+      | then-is_spare w ↦
+          count_step c.loop-slot.slot (has_spare c.args.members.now.spares) c.is_spare.result c.loop-slot.count c.if-is_spare.count c.loop-slot.invariant c.is_spare.ensures
+          (rw w.if-is_spare.true (omega (arith, w.count-is)))
+      | else-is_spare w ↦
+          count_step c.loop-slot.slot (has_spare c.args.members.now.spares) c.is_spare.result c.loop-slot.count c.if-is_spare.count c.loop-slot.invariant c.is_spare.ensures
+          (rw w.if-is_spare.false (omega (arith, w.count-is)))
+    ]
 
 pub returns-clause-few : goal.returns-clause-few
 returns-clause-few c =
