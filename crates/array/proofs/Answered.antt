@@ -151,9 +151,6 @@ nothing-left array still own none =
 
 -- so it is told
 module _ {B : Type 0} (array : RunningParts B) (still : is_reshaping array.parts.members.newest ≡ false) where
-  pub next-own : 0 < left_of array.parts.work array.parts.members → (n : Next) → n ≡ next.Own → IsNext array n
-  next-own some n is = subst (λ (x : Next). IsNext array x) (sym is) (still, some)
-
   pub next-none : left_of array.parts.work array.parts.members ≡ 0 → phases_of array.ahead ≡ [] → (n : Next) → n ≡ next.Nothing → IsNext array n
   next-none own none n is = subst (λ (x : Next). IsNext array x) (sym is) (nothing-left array still own none)
 

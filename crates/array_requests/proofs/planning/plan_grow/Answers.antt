@@ -86,8 +86,8 @@ invariant_of-array g c =
     kept-in-reshape g.B.Bank.given g.B.Bank.tape (length c.array.inside.window.items) c.replace_with-made.new.dest
     (reshape-refused g.B.Bank.given g.B.Bank.tape c.array.inside.array c.replace_with-made.new.dest did.1.1.1.1.1.0 ⊤ _ (asked_in (g.B.Bank.given c.array.inside.array.parts.bank) c.array.inside.array) _ _ (Refused (Busy Reshape)) c.in-Err.fault did.0 did.1.1.1.1.1.1.1.1.0 did.1.1.1.1.1.1.1.1.1 c.check_array.ensures.within was)
 
-pub returns-in-Err-clause-answered : goal.returns-in-Err-clause-answered
-returns-in-Err-clause-answered g c =
+pub returns-then-is_reshaping-clause-answered : goal.returns-then-is_reshaping-clause-answered
+returns-then-is_reshaping-clause-answered g c =
     let did = c.in-Err.ensures in
     let number = subst (λ p. c.args.who.number ≡ next_number c.args.who.caller p.parts.entries) (sym c.array.view_is) c.requires.next in
     let old = c.array.inside.array in
@@ -96,8 +96,8 @@ returns-in-Err-clause-answered g c =
     let replied = replied-refused ⊤ g.B.Bank.tells g.B.Bank.given g.B.Bank.tape g.B.Bank.faults_of old new c.args.wish c.args.who number did.1.0 ℕ (Refused (Busy Reshape)) (running_left new) c.in-Err.fault did.0 did.1.1.1.0 in
     subst (λ p. IsGrowReplied {T = ℕ} (list_length p.parts.members.newest) c.args.wish c.args.who p.parts.entries new.parts.entries (running_left new) (Err c.in-Err.fault)) (sym here) replied
 
-pub returns-in-Err-clause-went : goal.returns-in-Err-clause-went
-returns-in-Err-clause-went g c =
+pub returns-then-is_reshaping-clause-went : goal.returns-then-is_reshaping-clause-went
+returns-then-is_reshaping-clause-went g c =
     let did = c.in-Err.ensures in
     let number = subst (λ p. c.args.who.number ≡ next_number c.args.who.caller p.parts.entries) (sym c.array.view_is) c.requires.next in
     rw (← c.array.view_is) (went-refused ⊤ g.B.Bank.tells g.B.Bank.given g.B.Bank.tape g.B.Bank.faults_of c.array.inside.array c.replace_with-made.new.dest c.args.wish c.args.who number did.1.0
@@ -118,17 +118,17 @@ returns-in-Err-made-clause-as_before g c = let did = c.in-Err-made.ensures in rw
 pub returns-in-Err-made-clause-ended : goal.returns-in-Err-made-clause-ended
 returns-in-Err-made-clause-ended g c = let did = c.in-Err-made.ensures in did.1.1.1.1.1.1.0
 
-pub returns-in-Err-clause-as_before : goal.returns-in-Err-clause-as_before
-returns-in-Err-clause-as_before g c = let did = c.in-Err.ensures in rw (← c.array.view_is) did.1.1.1.1.1.0
+pub returns-then-is_reshaping-clause-as_before : goal.returns-then-is_reshaping-clause-as_before
+returns-then-is_reshaping-clause-as_before g c = let did = c.in-Err.ensures in rw (← c.array.view_is) did.1.1.1.1.1.0
 
-pub returns-in-Err-clause-judged : goal.returns-in-Err-clause-judged
-returns-in-Err-clause-judged g c =
+pub returns-then-is_reshaping-clause-judged : goal.returns-then-is_reshaping-clause-judged
+returns-then-is_reshaping-clause-judged g c =
     let did = c.in-Err.ensures in
     let here = sym c.array.view_is in
     subst (λ p. IsGrowJudged {T = ℕ} (asked_in (g.B.Bank.given p.parts.bank) p) c.args.wish (Err c.in-Err.fault)) (sym here) did.1.1.1.0
 
-pub returns-in-Err-clause-ended : goal.returns-in-Err-clause-ended
-returns-in-Err-clause-ended g c = let did = c.in-Err.ensures in did.1.1.1.1.1.1.1.0
+pub returns-then-is_reshaping-clause-ended : goal.returns-then-is_reshaping-clause-ended
+returns-then-is_reshaping-clause-ended g c = let did = c.in-Err.ensures in did.1.1.1.1.1.1.1.0
 
 -- ---- what is asked of the array
 

@@ -1,6 +1,0 @@
-use Rattle.std.proofs.Common.{arith}
-use Rattle.array_fixed_laws.proofs.Left.{left-few}
-use Rattle.array_fixed.proofs.state.all_left.Goals as goal
-
-pub overflow_add-result : goal.overflow_add-result
-overflow_add-result c = let few = left-few c.args.work.now c.args.members.now c.requires.shape c.requires.size in omega (arith, few, c.steps_left-left.ensures, c.planned_left.ensures.few)
