@@ -7,7 +7,6 @@ use Rattle.array_reply_specs.specs.raid_types_the_Role.{Role}
 use Rattle.array_reply_specs.specs.raid_types_the_Role_TheVariants.{Missing}
 use Rattle.array_reply_specs.specs.bank_the_Operation.{Operation}
 use Rattle.array_reply_specs.specs.bank_Given.{Given}
-use Rattle.array_transition.specs.sb_codec_the_Sb.{Sb}
 use Rattle.array_transition.specs.sb_specs_the_Members.{Members}
 use Rattle.array_transition.specs.sb_specs_Reading.{Scope, holder, role_state, is_reshaping, next_window}
 use Rattle.array_transition.specs.sb_specs_Reads.{SaysSame, has_spare}

@@ -1,5 +1,5 @@
 -- What the stored superblocks say of an array that runs.
-use Rattle.std.specs.Prelude.{◌≡◌, ℕ, ◌≤◌, true, false, List, length, Option, Some, IfSome}
+use Rattle.std.specs.Prelude.{◌≡◌, ℕ, ◌≤◌, true, false, length, Some, IfSome}
 use Rattle.array_reply_specs.specs.raid_types_Shapes.{has_slot}
 use Rattle.array_transition.specs.sb_specs_the_Members.{Members}
 use Rattle.array_transition.specs.sb_specs_Reading.{Reading, holder, role_state, is_reshaping, next_window}
