@@ -45,7 +45,7 @@ invariant_of-result g c =
     let next = subst (λ p. (behind : List Phase) × (phases_of p.ahead ≡ Reshape c.args.to ∷ behind)) (sym c.self.view_is) c.requires.next in
     let did = c.in-Ok.ensures.begun in
     let given_is = c.in-Ok.ensures.given in
-    kept-in-reshape g.B.Bank.given g.B.Bank.tape (length c.self.inside.window.items) new
+    kept-in-reshape g.B.Bank.given g.B.Bank.tape (length c.new-window.result.items) new
     (reshape-begun g.B.Bank.given g.B.Bank.tape (length c.self.inside.window.items) c.args.to old new given_is (first-same next.1 c.phases_behind-behind.ensures.behind.1) did c.check_array.ensures.within was)
 
 pub invariant_of-running : goal.invariant_of-running
