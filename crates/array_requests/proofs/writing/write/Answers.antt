@@ -1,4 +1,4 @@
-use Rattle.std.proofs.Common.{◌≡◌, ℕ, ◌/◌, Option, length, refl, sym, ◌∙◌, ap, subst}
+use Rattle.std.proofs.Common.{◌≡◌, ℕ, ◌/◌, Option, length, refl, sym, ◌∙◌, subst}
 use Rattle.std.specs.Prelude.{IsSome}
 use Rattle.history_append.specs.history_the_Event_TheVariants.{Wrote}
 use Rattle.history_append.specs.history_the_Request_TheVariants.{Write as AsksWrite}
