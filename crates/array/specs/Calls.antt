@@ -1,5 +1,5 @@
 -- What the calls of a running array tell of it, by whether a reshape is active in it.
-use Rattle.std.specs.Prelude.{◌≡◌, ◌≢◌, ◌⊎◌, ℕ, ◌+◌, ◌<◌, true, false, List, [], ◌∷◌, if◌then◌else◌, MatchBool, MatchOption, Result, Ok, Err, ⊤}
+use Rattle.std.specs.Prelude.{◌≡◌, ◌≢◌, ◌⊎◌, ℕ, ◌+◌, ◌<◌, true, false, List, [], ◌∷◌, MatchBool, MatchOption, Result, Ok, Err, ⊤}
 use Rattle.array_grow.specs.raid_types_the_Fault.{Fault}
 use Rattle.array_grow.specs.raid_types_the_Fault_TheVariants.{Refused as IsRefusedWith, NoMemory}
 use Rattle.array_grow.specs.raid_types_the_Refusal.{Refusal}

@@ -1,4 +1,4 @@
-use Rattle.std.proofs.Common.{◌≡◌, length, sym, ◌∙◌, ap, subst}
+use Rattle.std.proofs.Common.{◌≡◌, length, sym, ◌∙◌, subst}
 use Rattle.array_call_specs.specs.raid_types_the_BusyKind_TheVariants.{Reshape}
 use Rattle.array_call_specs.specs.raid_types_the_Refusal_TheVariants.{Busy}
 use Rattle.array_open.specs.sb_specs_Reading.{list_length}

@@ -1,4 +1,4 @@
-use Rattle.std.proofs.Common.{◌≡◌, ℕ, length, sym, ◌∙◌, ap, subst, Err}
+use Rattle.std.proofs.Common.{◌≡◌, ℕ, length, sym, ◌∙◌, subst, Err}
 use Rattle.std.specs.Prelude.{⊤}
 use Rattle.array_call_specs.specs.raid_types_the_Refusal_TheVariants.{Busy}
 use Rattle.array_call_specs.specs.raid_types_the_BusyKind_TheVariants.{Reshape}

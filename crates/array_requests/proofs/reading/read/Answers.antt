@@ -1,4 +1,4 @@
-use Rattle.std.proofs.Common.{◌≡◌, ◌/◌, length, refl, sym, ◌∙◌, ap, subst}
+use Rattle.std.proofs.Common.{◌≡◌, ◌/◌, length, refl, sym, ◌∙◌, subst}
 use Rattle.array_call_specs.specs.raid_types_Sectors.{sectors_of}
 use Rattle.array_open.specs.sb_specs_Reading.{list_length}
 use Rattle.history_append.specs.history_the_Event_TheVariants.{Read}

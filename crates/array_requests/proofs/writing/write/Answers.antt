@@ -1,4 +1,4 @@
-use Rattle.std.proofs.Common.{◌≡◌, ℕ, ◌/◌, Option, length, refl, sym, ◌∙◌, ap, subst}
+use Rattle.std.proofs.Common.{◌≡◌, ℕ, ◌/◌, Option, length, refl, sym, ◌∙◌, subst}
 use Rattle.std.specs.Prelude.{IsSome}
 use Rattle.history_append.specs.history_the_Event_TheVariants.{Wrote}
 use Rattle.history_append.specs.history_the_Request_TheVariants.{Write as AsksWrite}
@@ -79,7 +79,7 @@ pub returns-clause-closed : goal.returns-clause-closed
 returns-clause-closed g c =
     let still = sym c.is_reshaping.ensures ∙ c.if-is_reshaping.false in
     let rest = c.array.invariant.rests still in
-    rw (← c.array.view_is, rest.now.course) (on-ok c.match-array.result (λ touches. absurd (cc (touches.3))))
+    rw (← c.array.view_is, rest.now.course) (on-ok c.write-done-2.result (λ touches. absurd (cc (touches.3))))
 
 pub returns-then-is_reshaping-clause-untouched : goal.returns-then-is_reshaping-clause-untouched
 returns-then-is_reshaping-clause-untouched g c =

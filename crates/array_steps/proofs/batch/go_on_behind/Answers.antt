@@ -1,11 +1,11 @@
-use Rattle.std.proofs.Common.{◌≡◌, ◌≢◌, inr, ℕ, ◌<◌, ◌≤◌, Bool, true, false, List, Option, Result, Ok, Err, MatchOption, refl, sym, subst, arith}
+use Rattle.std.proofs.Common.{◌≢◌, inr, ℕ, ◌<◌, ◌≤◌, Bool, true, false, List, Option, Result, Ok, Err, MatchOption, refl, sym, subst, arith}
 use Rattle.std.specs.Prelude.{⊤}
 use Rattle.array.specs.raid_types_the_Refusal.{Refusal}
 use Rattle.array.specs.raid_types_the_Who.{Who}
 use Rattle.array.specs.bank_the_Operation.{Operation}
 use Rattle.array.specs.bank_Given.{Given}
 use Rattle.array.specs.array_specs_Parts.{RunningParts}
-use Rattle.array_steps.specs.Steps.{IsStepTaken, IsStepDone, IsStepRefused, IsCountedBehind, IsGoneOn}
+use Rattle.array_steps.specs.Steps.{IsStepTaken, IsCountedBehind, IsGoneOn}
 use Rattle.array_steps.proofs.batch.go_on_behind.Goals as goal
 
 -- one step more, which doesn't end a reshape
