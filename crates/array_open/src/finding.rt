@@ -18,7 +18,7 @@ ghost use Rattle.array_open.specs.Found.{IsRunningFound};
 
 use crate::adopting::adopt_reshaping;
 use array_create_assemble::{Bank, Fault, Opened, find, is_reshaping};
-use array_fixed_calls::{Opened as OpenedAtRest, adopt};
+use array_calls::{Opened as OpenedAtRest, adopt};
 use array_steps::Running;
 use std::alloc::Global;
 

@@ -34,7 +34,10 @@ use Rattle.array_reshaping_end_laws.proofs.Ended.{IsStepped}
 use Rattle.array_reshaping_end_laws.proofs.Ending.{only-lost}
 use Rattle.array_reshaping_steps.specs.array_specs_Parts.{still_left}
 use Rattle.array_reshaping_steps.proofs.array_reshaping_laws_Kept.{left_by}
-use Rattle.array_fixed_sync.proofs.NextLaws.{none-times}
+
+-- no times a number is none
+none-times : (m n : ℕ) → m ≡ 0 → m * n ≡ 0
+none-times m n is = let none : 0 * n ≡ 0 = omega arith in ap (λ (k : ℕ). k * n) is ∙ none
 
 -- ---- nothing is to be rebuilt
 

@@ -13,7 +13,7 @@ use Rattle.array_fixed_laws.proofs.Adopting.{begins-ready}
 use Rattle.sb_election.proofs.raid_layout_Limits.{limited}
 use Rattle.array_type.proofs.Asked.{known-at}
 use Rattle.array_type.proofs.Alike.{stays-at-rest}
-use Rattle.array_fixed_calls.proofs.adopting.adopt.Goals as goal
+use Rattle.array_calls.proofs.adopting.adopt.Goals as goal
 
 pub invariant_of-result : goal.invariant_of-result
 invariant_of-result g c =

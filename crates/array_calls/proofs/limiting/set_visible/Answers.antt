@@ -18,7 +18,7 @@ use Rattle.array_fixed_laws.proofs.Limiting.{unlimited-fits, unlimited-stands, u
 use Rattle.array_parts.specs.history_Transfers.{last_end_from}
 use Rattle.array_type.proofs.Asked.{entries-alike}
 use Rattle.array_type.proofs.Alike.{stays-at-rest}
-use Rattle.array_fixed_calls.proofs.limiting.set_visible.Goals as goal
+use Rattle.array_calls.proofs.limiting.set_visible.Goals as goal
 
 -- ---- refused
 
