@@ -11,7 +11,7 @@ use Rattle.array_grow.specs.array_specs_Adding.{IsAddCalled}
 use Rattle.array_grow.specs.array_specs_Parts.{RunningParts}
 use Rattle.array_grow.specs.array_specs_Calls.{IsCalled, IsSameReshape}
 use Rattle.array_grow.proofs.array_fixed_laws_PlansKept.{AddNoPlan}
-pub use Rattle.array_type.proofs.Rest.{on-both}
+pub use Rattle.array_grow.proofs.array_type_Rest.{on-both}
 use Rattle.array.specs.State.{IsStillNow, IsWithin, IsAtRest, IsInReshape, IsAsTold}
 use Rattle.array.proofs.Kept.{rest-called, reshape-called, rest-alone, reshape-alone, rest-added, reshape-added, rest-looked, reshape-looked, roomy-rest, roomy-reshape}
 

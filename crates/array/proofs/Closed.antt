@@ -36,12 +36,12 @@ use Rattle.array_grow.specs.history_invariant_Recorded.{entry_of}
 use Rattle.array_takeover.specs.reshape_request_Left.{phases_of}
 use Rattle.array_grow.specs.array_specs_Parts.{RunningParts, still_left}
 use Rattle.array_grow.specs.array_specs_Calls.{IsStepTaken}
-use Rattle.array_grow.specs.array_fixed_sync_Resyncing.{is_at_end, IsUnsynced}
-use Rattle.array_grow.specs.array_fixed_sync_Resyncing as resync
+use Rattle.array_takeover.specs.array_fixed_sync_Resyncing.{is_at_end, IsUnsynced}
+use Rattle.array_takeover.specs.array_fixed_sync_Resyncing as resync
 use Rattle.array_grow.specs.array_fixed_sync_Rebuilding.{recovers, first_recovering, first_unassigned, IsRebuildNext, rebuilt_role, rebuild_kind, rebuild_events}
-use Rattle.array_grow.specs.array_fixed_sync_Stepping.{IsUndone, IsStepEntered, next_kind}
+use Rattle.array_takeover.specs.array_fixed_sync_Stepping.{IsUndone, IsStepEntered, next_kind}
 use Rattle.array_grow.proofs.array_fixed_sync_Lowest.{lowest-found}
-use Rattle.array_grow.proofs.array_fixed_sync_NextLaws.{next-rebuild}
+use Rattle.array_takeover.proofs.array_fixed_sync_NextLaws.{next-rebuild}
 use Rattle.array_grow.specs.array_transition_Ended.{ended_length, IsEndedWith}
 use Rattle.array_grow.proofs.Idle.{none-left}
 use Rattle.array_grow.proofs.array_fixed_laws_PlansKept.{PlanNone, AddNoPlan, none-open, done-closes}

@@ -35,8 +35,8 @@ use Rattle.array_grow.specs.array_specs_Parts.{RunningParts, still_left}
 use Rattle.array_grow.specs.array_specs_Calls.{IsStepTaken}
 use Rattle.array_grow.specs.array_reshaping_laws_Steps.{resync_behind, IsStepCaused}
 use Rattle.array_grow.specs.array_fixed_laws_Steps.{IsEndedRight, IsClosable}
-use Rattle.array_grow.specs.array_fixed_sync_Resyncing.{is_at_end, IsUnsynced}
-use Rattle.array_grow.specs.array_fixed_sync_Stepping.{IsUndone, after_step}
+use Rattle.array_takeover.specs.array_fixed_sync_Resyncing.{is_at_end, IsUnsynced}
+use Rattle.array_takeover.specs.array_fixed_sync_Stepping.{IsUndone, after_step}
 use Rattle.array_grow.specs.array_reshaping_steps_Replies.{IsEndedInReshape}
 use Rattle.array_grow.specs.array_transition_Begun.{IsUnbegun, IsBeginRefused}
 use Rattle.array_grow.proofs.array_fixed_sync_Lowest.{lowest-found}

@@ -32,9 +32,9 @@ use Rattle.array_grow.proofs.history_invariant_Tests.{neither}
 use Rattle.array_grow.specs.array_specs_Parts.{RunningParts}
 use Rattle.array_grow.specs.array_specs_Calls.{IsStepTaken}
 use Rattle.array_grow.specs.array_specs_Plans.{turns_shape, KeepsShape}
-use Rattle.array_grow.specs.array_fixed_sync_Resyncing as resync
+use Rattle.array_takeover.specs.array_fixed_sync_Resyncing as resync
 use Rattle.array_grow.specs.array_fixed_sync_Rebuilding.{rebuilt_role, rebuild_kind, rebuild_events}
-use Rattle.array_grow.specs.array_fixed_sync_Stepping.{IsStepEntered}
+use Rattle.array_takeover.specs.array_fixed_sync_Stepping.{IsStepEntered}
 use Rattle.array_grow.specs.array_reshaping_laws_Writing.{IsRepliedBehind, IsWriteReplied}
 use Rattle.array_grow.specs.array_transition_Begun.{begun_length, IsBegunWith}
 use Rattle.array_grow.specs.array_transition_Ended.{ended_length, IsEndedWith}

@@ -10,7 +10,7 @@ pub use Rattle.array_grow.proofs.array_reply_specs_Fitting
 pub use Rattle.array_grow.proofs.array_reply_specs_GoneOn
 pub use Rattle.array_grow.proofs.array_fixed_invariant_Whole
 pub use Rattle.array_grow.proofs.array_fixed_laws_PlansKept
-pub use Rattle.array_grow.proofs.array_fixed_sync_NextLaws
+pub use Rattle.array_takeover.proofs.array_fixed_sync_NextLaws
 pub use Rattle.array_grow.proofs.array_transition_Begun
 pub use Rattle.array_grow.proofs.array_call_specs_LossLaws
 pub use Rattle.array_grow.proofs.array_call_specs_ReadyLaws

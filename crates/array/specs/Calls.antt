@@ -20,7 +20,7 @@ use Rattle.array_takeover.specs.reshape_request_Left.{phases_of}
 use Rattle.array_grow.specs.history_invariant_Safe.{IsFilledRight}
 use Rattle.array_grow.specs.history_invariant_laws_Reliable.{IsReliable}
 use Rattle.array_grow.specs.array_specs_Parts.{RunningParts}
-pub use Rattle.array_type.specs.One.{running_left, IsShownAs}
+pub use Rattle.array_grow.specs.array_type_One.{running_left, IsShownAs}
 use Rattle.array_grow.specs.reshape_progress_Course.{hidden_in}
 use Rattle.array_grow.specs.array_reshaping_state_Due.{due_of}
 use Rattle.array_grow.specs.array_reshaping_state_the_Due_TheVariants.{Finish as EndsReshape}

@@ -20,7 +20,7 @@ use Rattle.array_grow.specs.array_specs_Parts.{RunningParts}
 use Rattle.array_grow.specs.Stored.{IsStoredBy}
 use Rattle.array_grow.specs.array_specs_Calls.{moving_world}
 use Rattle.array_grow.specs.array_specs_Plans.{ArePlansKept, KeepsShape}
-use Rattle.array_type.specs.One.{KeepsBy, running_left}
+use Rattle.array_grow.specs.array_type_One.{KeepsBy, running_left}
 
 -- its superblocks tell no reshape, and there is no course of one
 pub record IsStillNow {B : Type 0} (array : RunningParts B) : Type 0 where

@@ -20,8 +20,7 @@ mod rooms;
 mod stepping;
 mod taking;
 
-use array_grow::Bank;
-use array_type::Array;
+use array_grow::{Array, Bank};
 pub use choosing::Next;
 use std::alloc::Global;
 use std::marker::Model;

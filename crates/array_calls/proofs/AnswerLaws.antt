@@ -11,20 +11,20 @@ use Rattle.array_type.specs.history_the_Entry.{Entry}
 use Rattle.array_type.specs.history_the_Event.{Event}
 use Rattle.array_type.specs.history_the_Event_TheVariants.{Stepped}
 use Rattle.array_type.specs.history_Legal.{IsRefusedRight}
-use Rattle.array_fixed_invariant.specs.history_Losses.{is_unsynced}
+use Rattle.array_type.specs.history_Losses.{is_unsynced}
 use Rattle.array_type.specs.history_Plain.{entries_of}
 use Rattle.array_type.specs.history_World.{World}
 use Rattle.array_type.specs.array_members_the_Work.{Work}
 use Rattle.array_type.specs.array_members_Numbers.{bears}
 use Rattle.array_type.specs.array_members_Placed.{IsPlaced}
 use Rattle.array_type.proofs.array_members_Fit.{force-disks}
-use Rattle.array_fixed_invariant.proofs.history_append_LeftLaws.{keeps-left}
+use Rattle.array_type.proofs.history_append_LeftLaws.{keeps-left}
 use Rattle.array_type.specs.array_call_specs_Calls.{IsLossBy}
 use Rattle.array_type.specs.reshape_request_the_PhasesLeft.{PhasesLeft}
 use Rattle.array_type.specs.history_invariant_Recorded.{IsCallGoing, entry_of}
 use Rattle.array_type.specs.history_invariant_Safe.{world_in}
 use Rattle.array_type.specs.history_invariant_laws_Reliable.{IsReliable, AreToldGone}
-use Rattle.array_fixed_invariant.proofs.history_invariant_laws_Quiet.{IsQuiet}
+use Rattle.array_type.proofs.history_invariant_laws_Quiet.{IsQuiet}
 use Rattle.array_type.specs.reshape_progress_the_Course.{Course}
 use Rattle.array_type.specs.array_reshaping_invariant_Moving.{IsMoving}
 use Rattle.array_type.proofs.array_reshaping_invariant_Refusals.{refused-right}

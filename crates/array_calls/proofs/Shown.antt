@@ -1,14 +1,14 @@
 -- What a status tells of an array, whether a reshape is active in it or not.
 use Rattle.std.proofs.Common.{◌≡◌, ◌∙◌, Bool, true, false, Option, Some, None, cond, MatchBool, sym, ap, subst}
 use Rattle.std.specs.Prelude.{if◌then◌else◌, unwrap_or}
-use Rattle.array_state.specs.raid_types_the_Shape.{Shape}
-use Rattle.array_state.specs.raid_types_the_Status.{Status}
-use Rattle.sb_election.specs.sb_specs_Reading.{is_reshaping, is_clean, shape_of, target_of, final_shape, list_length}
-use Rattle.array_fixed_laws.specs.array_specs_Parts.{RunningParts, visible_in, left_in, still_left}
-use Rattle.array_fixed_laws.specs.array_specs_Calls.{IsStatusFor}
-use Rattle.array_fixed_laws.specs.array_specs_Still.{IsStillStatus}
-use Rattle.array_fixed_laws.proofs.Asking.{status-same as rest-same}
-use Rattle.array_reshaping_laws.proofs.Asking.{status-same as move-same}
+use Rattle.array_type.specs.raid_types_the_Shape.{Shape}
+use Rattle.array_type.specs.raid_types_the_Status.{Status}
+use Rattle.array_type.specs.sb_specs_Reading.{is_reshaping, is_clean, shape_of, target_of, final_shape, list_length}
+use Rattle.array_type.specs.array_specs_Parts.{RunningParts, visible_in, left_in, still_left}
+use Rattle.array_type.specs.array_specs_Calls.{IsStatusFor}
+use Rattle.array_type.specs.array_specs_Still.{IsStillStatus}
+use Rattle.array_type.proofs.array_fixed_laws_Asking.{status-same as rest-same}
+use Rattle.array_type.proofs.array_reshaping_laws_Asking.{status-same as move-same}
 use Rattle.array_type.specs.One.{running_left, IsShownAs}
 use Rattle.array_type.proofs.Rest.{on-both}
 

@@ -1,20 +1,16 @@
 //! An array that is taken over from its superblocks.
 
 ghost use Rattle.std.specs.Prelude.{◌≡◌, ◌<◌, ℕ, [], false, None, IfOk, IfErr};
-ghost use Rattle.array_state.specs.raid_types_Shapes.{has_slot};
-ghost use Rattle.array_fixed_laws.specs.array_call_specs_Kept.{scope_in};
-ghost use Rattle.array_fixed_laws.specs.array_call_specs_Adopting.{IsAdoptable, IsAdopted};
-ghost use Rattle.array_parts.specs.reshape_request_Left.{phases_of};
-ghost use Rattle.sb_election.specs.sb_specs_Reading.{is_reshaping};
+ghost use Rattle.array_type.specs.raid_types_Shapes.{has_slot};
+ghost use Rattle.array_type.specs.array_call_specs_Kept.{scope_in};
+ghost use Rattle.array_type.specs.array_call_specs_Adopting.{IsAdoptable, IsAdopted};
+ghost use Rattle.array_type.specs.reshape_request_Left.{phases_of};
+ghost use Rattle.array_type.specs.sb_specs_Reading.{is_reshaping};
 
-use array_fixed_laws::shape_in;
-use array_parts::{Epoch, PhasesLeft, Window};
-use array_state::NoMemory;
-use array_state::absent::append_absent;
-use array_state::room::{Room, room_for};
-use array_state::work::found_work;
-use array_type::{Array, Course};
-use sb_election::{Bank, Members};
+use array_type::{
+    Array, Bank, Course, Epoch, Members, NoMemory, PhasesLeft, Room, Window, append_absent,
+    found_work, room_for, shape_in,
+};
 use std::alloc::Global;
 
 /// What an opening found: the backup slot, the members, and a bit for each slot that was looked at.

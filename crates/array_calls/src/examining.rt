@@ -1,13 +1,11 @@
 //! The superblocks as they are stored.
 
 ghost use Rattle.array_type.specs.bank_Tape.{contents};
-ghost use Rattle.sb_election.specs.sb_codec_Superblock.{superblock_in};
-ghost use Rattle.sb_election.specs.sb_specs_Election.{IsCausedBy};
+ghost use Rattle.array_type.specs.sb_codec_Superblock.{superblock_in};
+ghost use Rattle.array_type.specs.sb_specs_Election.{IsCausedBy};
 ghost use Rattle.std.specs.Prelude.{◌≡◌, ◌<◌, length, IfOk};
 
-use array_type::{Array, Bank};
-use sb_election::reads::read_superblock;
-use sb_election::{BankFault, Sb};
+use array_type::{Array, Bank, BankFault, Sb, read_superblock};
 
 /// What the superblock of a slot says as it is stored now, whichever array's it is, and `None` where the slot has no valid
 /// one. It writes nothing and enters nothing. Where the slot fails it is lost by the next call that uses it.

@@ -10,10 +10,9 @@ ghost use Rattle.array_type.specs.sb_specs_Reading.{is_clean, list_length, role_
 ghost use Rattle.array_type.specs.stripe_row_Rows.{present, reading_of};
 ghost use Rattle.std.specs.Prelude.{◌≡◌, ◌≢◌, ◌≤◌, length, Some, IfSome, IfNone};
 
-use array_parts::{LostCause, lose_slot};
 use array_type::{
-    Array, Bank, Event, Fault, Members, Refusal, Role, Who, append_after_losses, append_entry,
-    check_number, newly_unassigned, record_missing, unassigned_roles,
+    Array, Bank, Event, Fault, LostCause, Members, Refusal, Role, Who, append_after_losses,
+    append_entry, check_number, lose_slot, newly_unassigned, record_missing, unassigned_roles,
 };
 
 // The slot that holds a role, whole or in part.

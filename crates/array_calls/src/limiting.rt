@@ -1,20 +1,19 @@
 //! How much of an array without an active reshape can be read and written.
 
 ghost use Rattle.std.specs.Prelude.{◌≡◌, ◌≢◌, nat_lt, false, length};
-ghost use Rattle.sb_election.specs.sb_specs_Reading.{is_reshaping};
-ghost use Rattle.array_parts.specs.history_Flat.{next_number};
-ghost use Rattle.array_parts.specs.history_the_Event_TheVariants.{Visible};
-ghost use Rattle.array_fixed_laws.specs.array_call_specs_Calls.{IsEndOf, OnNoMemory, by_answer};
-ghost use Rattle.array_parts.specs.reshape_request_Left.{phases_of};
-ghost use Rattle.array_fixed_laws.specs.array_specs_Calls.{moving_world};
-ghost use Rattle.array_fixed_laws.specs.array_specs_Parts.{visible_in};
-ghost use Rattle.array_fixed_laws.specs.array_specs_Visible.{visible_refusal, still_refusal, IsVisibleJudged, IsVisibleAnswered, IsLimitedAs};
+ghost use Rattle.array_type.specs.sb_specs_Reading.{is_reshaping};
+ghost use Rattle.array_type.specs.history_Flat.{next_number};
+ghost use Rattle.array_type.specs.history_the_Event_TheVariants.{Visible};
+ghost use Rattle.array_type.specs.array_call_specs_Calls.{IsEndOf, OnNoMemory, by_answer};
+ghost use Rattle.array_type.specs.reshape_request_Left.{phases_of};
+ghost use Rattle.array_type.specs.array_specs_Calls.{moving_world};
+ghost use Rattle.array_type.specs.array_specs_Parts.{visible_in};
+ghost use Rattle.array_type.specs.array_specs_Visible.{visible_refusal, still_refusal, IsVisibleJudged, IsVisibleAnswered, IsLimitedAs};
 
-use array_fixed_laws::visible_of;
-use array_parts::{Event, PhasesLeft};
-use array_state::{BusyKind, Fault, Refusal, Who, append_entry, check_number};
-use array_type::Array;
-use sb_election::Bank;
+use array_type::{
+    Array, Bank, BusyKind, Event, Fault, PhasesLeft, Refusal, Who, append_entry, check_number,
+    visible_of,
+};
 
 // Whether a phase of a plan hasn't begun.
 fn is_planned(ahead: &PhasesLeft) -> bool

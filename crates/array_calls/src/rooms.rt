@@ -2,8 +2,7 @@
 
 ghost use Rattle.std.specs.Prelude.{◌≡◌, OnOk, OnErr};
 
-use array_state::NoMemory;
-use array_type::{Array, Bank};
+use array_type::{Array, Bank, NoMemory};
 
 /// Makes room for the entries of so many steps, each of which takes the room of one, but the last of the reshape, which takes that of two:
 /// none of them wants memory.

@@ -8,10 +8,10 @@ ghost use Rattle.array_type.specs.history_the_Event_TheVariants.{Shown};
 ghost use Rattle.array_type.specs.sb_specs_Reading.{is_reshaping};
 ghost use Rattle.std.specs.Prelude.{◌≡◌, ◌≢◌, ◌<◌, ◌≤◌, [], ◌∷◌, length, IfOk, IfErr, if◌then◌else◌};
 
-use array_state::asking::{copy_roles, copy_slots};
-use array_state::{NoMemory, Status};
-use array_type::{Array, Bank, Event, Members, Who, append_entry, check_number, shape_in};
-use sb_election::{is_clean, is_reshaping, target_of};
+use array_type::{
+    Array, Bank, Event, Members, NoMemory, Status, Who, append_entry, check_number, copy_roles,
+    copy_slots, is_clean, is_reshaping, shape_in, target_of,
+};
 
 // How far the position of an active reshape has come; 0 without one.
 fn position_of(members: &Members) -> u64

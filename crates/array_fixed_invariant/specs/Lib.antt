@@ -85,3 +85,14 @@ pub use Rattle.array_reshaping_invariant.specs.raid_types_the_Span
 pub use Rattle.array_reshaping_invariant.specs.raid_types_the_Who
 pub use Rattle.array_reshaping_invariant.specs.raid_parity_Rows
 pub use Rattle.array_reshaping_invariant.specs.sb_codec_the_Sb
+pub use Rattle.array_reshaping_invariant.specs.history_Stands
+pub use Rattle.array_reshaping_invariant.specs.reshape_geometry_Geometry
+pub use Rattle.array_reshaping_invariant.specs.sb_specs_Updating
+pub use Rattle.array_reshaping_invariant.specs.crash_safety_laws_Updates
+pub use Rattle.array_reshaping_invariant.specs.crash_reshape_laws_Plans
+pub use Rattle.array_reshaping_invariant.specs.reshape_progress_resync_laws_Synced
+pub use Rattle.array_reshaping_invariant.specs.Moving as array_reshaping_invariant_Moving
+pub use Rattle.array_reshaping_invariant.specs.history_Transfers
+pub use Rattle.array_reshaping_invariant.specs.raid_layout_Layout
+pub use Rattle.array_reshaping_invariant.specs.stripe_region_laws_Regions
+pub use Rattle.array_reshaping_invariant.specs.reshape_progress_Course

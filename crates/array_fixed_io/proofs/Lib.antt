@@ -3,7 +3,7 @@ pub use Rattle.array_type.proofs.sb_read_laws_SaidLists
 pub use Rattle.array_type.proofs.sb_read_laws_SaidSlots
 pub use Rattle.array_type.proofs.crash_safety_laws_PlannedRoles
 pub use Rattle.array_type.proofs.history_invariant_laws_Behind
-pub use Rattle.array_type.proofs.Lowest as array_fixed_Lowest
+pub use Rattle.array_type.proofs.Lowest as array_type_Lowest
 pub use Rattle.array_type.proofs.crash_views_Stands
 pub use Rattle.array_type.proofs.array_call_specs_StepsLeft
 pub use Rattle.array_type.proofs.crash_safety_laws_Kept
@@ -30,3 +30,34 @@ pub use Rattle.array_type.proofs.array_members_MarkLaws
 pub use Rattle.array_type.proofs.array_members_Still
 pub use Rattle.array_type.proofs.history_laws_OneShapeGrowing
 pub use Rattle.array_type.proofs.history_invariant_Records
+pub use Rattle.array_type.proofs.history_append_CallLaws
+pub use Rattle.array_type.proofs.array_fixed_laws_AddLaws
+pub use Rattle.array_type.proofs.array_fixed_laws_PlainBehind
+pub use Rattle.array_type.proofs.array_fixed_laws_PlansKept
+pub use Rattle.array_type.proofs.array_fixed_laws_StepLaws
+pub use Rattle.array_type.proofs.array_fixed_laws_RebuildLaws
+pub use Rattle.array_type.proofs.array_members_LackingLaws
+pub use Rattle.array_type.proofs.array_call_specs_LossLaws
+pub use Rattle.array_type.proofs.array_call_specs_ReplyLaws
+pub use Rattle.array_type.proofs.array_fixed_invariant_Flushing
+pub use Rattle.array_type.proofs.array_fixed_laws_ResyncLaws
+pub use Rattle.array_type.proofs.array_call_specs_DegradedLaws
+pub use Rattle.array_type.proofs.array_fixed_laws_PlainSteps
+pub use Rattle.array_type.proofs.Asked as array_type_Asked
+pub use Rattle.array_type.proofs.array_state_UnmendableLaws
+pub use Rattle.array_type.proofs.array_call_laws_ResyncLaws
+pub use Rattle.array_type.proofs.array_fixed_invariant_Resync
+pub use Rattle.array_type.proofs.Rested as array_type_Rested
+pub use Rattle.array_type.proofs.raid_layout_Limits
+pub use Rattle.array_type.proofs.array_members_GivenMembers
+pub use Rattle.array_type.proofs.array_call_laws_RebuildGiven
+pub use Rattle.array_type.proofs.array_fixed_invariant_Rebuilding
+pub use Rattle.array_type.proofs.array_fixed_invariant_Staying
+pub use Rattle.array_type.proofs.history_append_PlainLaws
+pub use Rattle.array_type.proofs.array_call_laws_RebuildEnded
+pub use Rattle.array_type.proofs.array_call_laws_RebuildLaws
+pub use Rattle.array_type.proofs.array_fixed_invariant_Ending
+pub use Rattle.array_type.proofs.array_members_MovedLaws
+pub use Rattle.array_type.proofs.crash_safety_laws_Risen
+pub use Rattle.array_type.proofs.array_members_SafeStretch
+pub use Rattle.array_type.proofs.raid_types_Least

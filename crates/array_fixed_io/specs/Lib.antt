@@ -9,7 +9,7 @@ pub use Rattle.array_type.specs.array_fixed_laws_Ready
 pub use Rattle.array_type.specs.array_fixed_invariant_reshape_progress_Laws
 pub use Rattle.array_type.specs.crash_safety_laws_Marking
 pub use Rattle.array_type.specs.array_call_specs_Calls
-pub use Rattle.array_type.specs.Rebuilding as array_fixed_Rebuilding
+pub use Rattle.array_type.specs.Rebuilding as array_type_Rebuilding
 pub use Rattle.array_type.specs.crash_safety_laws_Safety
 pub use Rattle.array_type.specs.crash_safety_laws_Steady
 pub use Rattle.array_type.specs.crash_views_Views
@@ -63,3 +63,18 @@ pub use Rattle.array_type.specs.array_members_Placed
 pub use Rattle.array_type.specs.array_members_Rebuilding
 pub use Rattle.array_type.specs.array_members_Status
 pub use Rattle.array_type.specs.array_members_the_Work
+pub use Rattle.array_type.specs.array_fixed_laws_Steps
+pub use Rattle.array_type.specs.sb_safe_updates_First
+pub use Rattle.array_type.specs.raid_types_the_Fault_TheVariants
+pub use Rattle.array_type.specs.raid_types_Sectors
+pub use Rattle.array_type.specs.raid_types_the_Role_TheVariants
+pub use Rattle.array_type.specs.stripe_list_Writing
+pub use Rattle.array_type.specs.sb_safe_updates_Named
+pub use Rattle.array_type.specs.raid_types_the_Who
+pub use Rattle.array_type.specs.raid_types_the_Fault
+pub use Rattle.array_type.specs.raid_types_the_Refusal
+pub use Rattle.array_type.specs.raid_types_the_Role
+pub use Rattle.array_type.specs.history_the_LostCause
+pub use Rattle.array_type.specs.history_append_Losing
+pub use Rattle.array_type.specs.raid_types_the_Shape
+pub use Rattle.array_type.specs.array_fixed_laws_Plain

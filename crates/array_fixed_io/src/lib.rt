@@ -5,8 +5,11 @@ mod reading;
 mod writing;
 
 pub use array_type::{
-    Array, Bank, Entries, Epoch, Event, Members, PhasesLeft, Pieces, StepKind, Work, first_spare,
-    is_missing, planned_left, set_rebuilt, steps_left, unassigned_roles,
+    Array, Bank, Entries, Epoch, Event, Fault, Filled, Members, PhasesLeft, Pieces, Refusal, Role,
+    Shape, StepKind, Who, Work, append_after_losses, append_entry, append_lost, check_going, fill,
+    first_resync_refusal, first_spare, flush_and_mark, flush_and_record, give_role, is_missing,
+    is_unassigned, left_at_rest, newly_unassigned, planned_left, record_missing, recovering_slot,
+    resync_rows, set_rebuilt, shape_in, steps_left, too_many, unassigned_roles, with, without,
 };
 pub use reading::read;
 pub use writing::write;

@@ -66,3 +66,25 @@ pub use Rattle.array_fixed_invariant.proofs.sb_read_laws_SaidSlots
 pub use Rattle.array_fixed_invariant.proofs.history_append_BearerLaws
 pub use Rattle.array_fixed_invariant.proofs.array_call_laws_SettledLaws
 pub use Rattle.array_fixed_invariant.proofs.history_laws_OneShapeGrowing
+pub use Rattle.array_fixed_invariant.proofs.history_invariant_laws_Quiet
+pub use Rattle.array_fixed_invariant.proofs.raid_types_SectorLaws
+pub use Rattle.array_specs.proofs.array_reshaping_state_ReshapeLaws
+pub use Rattle.array_specs.proofs.sb_safe_updates_Unused
+pub use Rattle.array_specs.proofs.history_invariant_laws_Failed
+pub use Rattle.array_specs.proofs.sb_safe_updates_RefusingLaws
+pub use Rattle.array_specs.proofs.array_reshaping_state_LeftLaws
+pub use Rattle.array_specs.proofs.history_invariant_laws_Adding
+pub use Rattle.array_fixed_invariant.proofs.history_invariant_laws_LastStep
+pub use Rattle.array_specs.proofs.array_reshaping_state_DueLaws
+pub use Rattle.array_fixed_invariant.proofs.Bridges as array_fixed_invariant_Bridges
+pub use Rattle.array_fixed_invariant.proofs.Quiet as array_fixed_invariant_Quiet
+pub use Rattle.array_fixed_invariant.proofs.Whole as array_fixed_invariant_Whole
+pub use Rattle.array_fixed_invariant.proofs.reshape_begin_end_Made
+pub use Rattle.array_fixed_invariant.proofs.reshape_sb_updates_BegunNewest
+pub use Rattle.array_fixed_invariant.proofs.reshape_sb_updates_BegunPlan
+pub use Rattle.array_fixed_invariant.proofs.reshape_sb_updates_EndedPlan
+pub use Rattle.array_fixed_invariant.proofs.reshape_sb_updates_NewRoles
+pub use Rattle.array_fixed_invariant.proofs.reshape_sb_updates_Taken
+pub use Rattle.array_fixed_invariant.proofs.raid_types_Tabulated
+pub use Rattle.array_fixed_invariant.proofs.stripe_row_Tables
+pub use Rattle.array_fixed_invariant.proofs.sb_specs_SlotSets

@@ -3,31 +3,31 @@ use Rattle.std.proofs.Common.{◌≡◌, inl, inr, ℕ, zero, suc, ◌+◌, ◌*
 use Rattle.std.proofs.Math.Nat.{min-le_left, min-le_right}
 use Rattle.std.specs.Prelude.{IsSome, IsTrue, MatchOption, nat_lt}
 use Rattle.std.specs.Option.{option_map_or}
-use Rattle.array_type.specs.raid_types_the_Fault.{Fault}
-use Rattle.array_type.specs.raid_types_the_Refusal.{Refusal}
-use Rattle.array_type.specs.raid_types_the_Role.{Role}
-use Rattle.array_type.specs.raid_types_the_Role_TheVariants.{Whole, Recovering, Missing}
-use Rattle.array_type.specs.bank_Given.{Given}
-use Rattle.array_type.specs.bank_the_Operation.{Operation}
-use Rattle.array_type.specs.sb_specs_the_Members.{Members}
-use Rattle.array_type.specs.sb_specs_Reading.{shape_of, role_state}
-use Rattle.array_type.specs.sb_specs_Reads.{has_spare}
-use Rattle.array_type.specs.stripe_row_Rows.{reading_of}
-use Rattle.array_type.specs.history_the_StepKind.{StepKind}
-use Rattle.array_type.specs.history_the_StepKind_TheVariants.{RebuildTaken, RebuildStripe, RebuildEnded, ResyncStripe, ResyncEnded}
-use Rattle.array_type.specs.array_members_the_Work.{Work}
-use Rattle.array_type.specs.array_members_Placed.{is_unassigned}
-use Rattle.array_type.specs.array_members_Status.{stripes_of, rebuilt_of, vacant_count, spare_count, resync_left, role_left, recovery_left, left_of}
-use Rattle.array_type.specs.array_members_Lacking.{AreTooMany}
-use Rattle.array_type.specs.array_call_specs_Calls.{WasSpare, IsCausedBy, IsUnmendable}
-use Rattle.array_type.specs.array_members_Rebuilding.{MayHold}
-use Rattle.array_type.specs.array_specs_Parts.{RunningParts}
-use Rattle.array_type.specs.array_fixed_laws_Steps.{IsStepped}
+use Rattle.array_fixed_io.specs.raid_types_the_Fault.{Fault}
+use Rattle.array_fixed_io.specs.raid_types_the_Refusal.{Refusal}
+use Rattle.array_fixed_io.specs.raid_types_the_Role.{Role}
+use Rattle.array_fixed_io.specs.raid_types_the_Role_TheVariants.{Whole, Recovering, Missing}
+use Rattle.array_fixed_io.specs.bank_Given.{Given}
+use Rattle.array_fixed_io.specs.bank_the_Operation.{Operation}
+use Rattle.array_fixed_io.specs.sb_specs_the_Members.{Members}
+use Rattle.array_fixed_io.specs.sb_specs_Reading.{shape_of, role_state}
+use Rattle.array_fixed_io.specs.sb_specs_Reads.{has_spare}
+use Rattle.array_fixed_io.specs.stripe_row_Rows.{reading_of}
+use Rattle.array_fixed_io.specs.history_the_StepKind.{StepKind}
+use Rattle.array_fixed_io.specs.history_the_StepKind_TheVariants.{RebuildTaken, RebuildStripe, RebuildEnded, ResyncStripe, ResyncEnded}
+use Rattle.array_fixed_io.specs.array_members_the_Work.{Work}
+use Rattle.array_fixed_io.specs.array_members_Placed.{is_unassigned}
+use Rattle.array_fixed_io.specs.array_members_Status.{stripes_of, rebuilt_of, vacant_count, spare_count, resync_left, role_left, recovery_left, left_of}
+use Rattle.array_fixed_io.specs.array_members_Lacking.{AreTooMany}
+use Rattle.array_fixed_io.specs.array_call_specs_Calls.{WasSpare, IsCausedBy, IsUnmendable}
+use Rattle.array_fixed_io.specs.array_members_Rebuilding.{MayHold}
+use Rattle.array_fixed_io.specs.array_specs_Parts.{RunningParts}
+use Rattle.array_fixed_io.specs.array_fixed_laws_Steps.{IsStepped}
 use Rattle.array_fixed_sync.specs.Resyncing.{is_at_end, IsUnsynced}
 use Rattle.array_fixed_sync.specs.Resyncing as resync
-use Rattle.array_type.specs.Rebuilding.{recovers, first_recovering, first_unassigned, first_spare, IsRebuildNext, rebuild_kind, IsHeldOrNext}
+use Rattle.array_fixed_io.specs.array_type_Rebuilding.{recovers, first_recovering, first_unassigned, first_spare, IsRebuildNext, rebuild_kind, IsHeldOrNext}
 use Rattle.array_fixed_sync.proofs.RebuildLaws.{losses-wider}
-use Rattle.array_type.proofs.Lowest.{lowest-found, lowest-fails, none-counted}
+use Rattle.array_fixed_io.proofs.array_type_Lowest.{lowest-found, lowest-fails, none-counted}
 use Rattle.array_fixed_sync.specs.Stepping.{IsUndone, next_kind, IsEnd, IsHeldOrDue}
 
 -- ---- steps that are left

@@ -4,35 +4,35 @@ use Rattle.std.proofs.lemmas.Bool.Decides.{nat_tests}
 use Rattle.std.proofs.lemmas.List.Elements.{All-weaker}
 use Rattle.std.specs.Prelude.{fold, IsSome, unwrap_or, OnOk, MatchOption}
 use Rattle.std.specs.Option.{option_map_or}
-use Rattle.array_type.specs.raid_types_Sectors.{Sector}
-use Rattle.array_type.specs.raid_types_the_Who.{Who}
-use Rattle.array_type.specs.raid_types_the_Fault.{Fault}
-use Rattle.array_type.specs.raid_types_the_Refusal.{Refusal}
-use Rattle.array_type.specs.raid_types_the_Fault_TheVariants.{Refused as IsRefusedWith, NoMemory}
-use Rattle.array_type.specs.raid_types_the_Role.{Role}
-use Rattle.array_type.specs.raid_types_the_Role_TheVariants.{Whole, Recovering, Missing}
-use Rattle.array_type.specs.sb_specs_the_Members.{Members}
-use Rattle.array_type.specs.sb_specs_Reading.{shape_of, final_shape, role_state}
-use Rattle.array_type.specs.sb_specs_Reads.{has_spare}
-use Rattle.array_type.specs.stripe_row_Rows.{reading_of}
-use Rattle.array_type.specs.history_the_Entry.{Entry}
-use Rattle.array_type.specs.history_the_Event.{Event}
-use Rattle.array_type.specs.history_the_Event_TheVariants.{Lost, SpareLost, Refused}
-use Rattle.array_type.specs.history_the_LostCause.{LostCause}
-use Rattle.array_type.specs.history_the_LostCause_TheVariants.{Fault as ByFault, Command}
-use Rattle.array_type.specs.history_the_StepKind.{StepKind}
-use Rattle.array_type.specs.history_the_StepKind_TheVariants.{RebuildTaken, RebuildStripe, RebuildEnded}
-use Rattle.array_type.specs.history_Flat.{values_after, values_of}
-use Rattle.array_type.specs.history_Plain.{entries_of}
-use Rattle.array_type.specs.array_members_the_Work.{Work}
-use Rattle.array_type.specs.history_append_Losing.{losses_of}
-use Rattle.array_type.specs.array_members_Placed.{is_unassigned}
-use Rattle.array_type.specs.array_members_Status.{stripes_of, rebuilt_of}
-use Rattle.array_type.specs.array_call_specs_Calls.{IsRecovered, IsRecoveredOrLost, IsRebuildStepped, AreValuesKept, IsRoleLossBy, IsLossBy, AreLossesBy}
-use Rattle.array_type.proofs.history_append_CallLaws.{losses-are, values-losses}
-use Rattle.array_type.proofs.array_call_specs_NowLaws.{values-more}
-use Rattle.array_type.specs.Rebuilding.{recovers, first_recovering, first_unassigned, first_spare, IsRebuildNext, rebuilt_role, rebuild_kind, rebuild_events, IsGivenToSpare}
-use Rattle.array_type.proofs.Lowest.{lowest-found}
+use Rattle.array_fixed_io.specs.raid_types_Sectors.{Sector}
+use Rattle.array_fixed_io.specs.raid_types_the_Who.{Who}
+use Rattle.array_fixed_io.specs.raid_types_the_Fault.{Fault}
+use Rattle.array_fixed_io.specs.raid_types_the_Refusal.{Refusal}
+use Rattle.array_fixed_io.specs.raid_types_the_Fault_TheVariants.{Refused as IsRefusedWith, NoMemory}
+use Rattle.array_fixed_io.specs.raid_types_the_Role.{Role}
+use Rattle.array_fixed_io.specs.raid_types_the_Role_TheVariants.{Whole, Recovering, Missing}
+use Rattle.array_fixed_io.specs.sb_specs_the_Members.{Members}
+use Rattle.array_fixed_io.specs.sb_specs_Reading.{shape_of, final_shape, role_state}
+use Rattle.array_fixed_io.specs.sb_specs_Reads.{has_spare}
+use Rattle.array_fixed_io.specs.stripe_row_Rows.{reading_of}
+use Rattle.array_fixed_io.specs.history_the_Entry.{Entry}
+use Rattle.array_fixed_io.specs.history_the_Event.{Event}
+use Rattle.array_fixed_io.specs.history_the_Event_TheVariants.{Lost, SpareLost, Refused}
+use Rattle.array_fixed_io.specs.history_the_LostCause.{LostCause}
+use Rattle.array_fixed_io.specs.history_the_LostCause_TheVariants.{Fault as ByFault, Command}
+use Rattle.array_fixed_io.specs.history_the_StepKind.{StepKind}
+use Rattle.array_fixed_io.specs.history_the_StepKind_TheVariants.{RebuildTaken, RebuildStripe, RebuildEnded}
+use Rattle.array_fixed_io.specs.history_Flat.{values_after, values_of}
+use Rattle.array_fixed_io.specs.history_Plain.{entries_of}
+use Rattle.array_fixed_io.specs.array_members_the_Work.{Work}
+use Rattle.array_fixed_io.specs.history_append_Losing.{losses_of}
+use Rattle.array_fixed_io.specs.array_members_Placed.{is_unassigned}
+use Rattle.array_fixed_io.specs.array_members_Status.{stripes_of, rebuilt_of}
+use Rattle.array_fixed_io.specs.array_call_specs_Calls.{IsRecovered, IsRecoveredOrLost, IsRebuildStepped, AreValuesKept, IsRoleLossBy, IsLossBy, AreLossesBy}
+use Rattle.array_fixed_io.proofs.history_append_CallLaws.{losses-are, values-losses}
+use Rattle.array_fixed_io.proofs.array_call_specs_NowLaws.{values-more}
+use Rattle.array_fixed_io.specs.array_type_Rebuilding.{recovers, first_recovering, first_unassigned, first_spare, IsRebuildNext, rebuilt_role, rebuild_kind, rebuild_events, IsGivenToSpare}
+use Rattle.array_fixed_io.proofs.array_type_Lowest.{lowest-found}
 
 -- ---- what is next
 

@@ -1,23 +1,23 @@
 -- What a step of a resync leaves as it is.
 use Rattle.std.proofs.Common.{◌≡◌, ℕ, ◌==◌, Bool, Option, Some, None, Result, Ok, Err, OnOk, List, [], ◌∷◌, ◌++◌, refl, sym, ◌∙◌, ap, subst}
 use Rattle.std.specs.Option.{option_eq}
-use Rattle.array_type.specs.raid_types_Sectors.{Sector}
-use Rattle.array_type.specs.raid_types_the_Who.{Who}
-use Rattle.array_type.specs.raid_types_the_Fault.{Fault}
-use Rattle.array_type.specs.raid_types_the_Fault_TheVariants.{Refused as IsRefusedWith, NoMemory}
-use Rattle.array_type.specs.sb_specs_the_Members.{Members}
-use Rattle.array_type.specs.history_the_Entry.{Entry}
-use Rattle.array_type.specs.history_the_Event.{Event}
-use Rattle.array_type.specs.history_the_Event_TheVariants.{Step, Refused}
-use Rattle.array_type.specs.history_the_StepKind.{StepKind}
-use Rattle.array_type.specs.history_Flat.{values_after, values_of}
-use Rattle.array_type.specs.history_Plain.{entries_of}
-use Rattle.array_type.specs.history_append_Losing.{losses_of}
-use Rattle.array_type.specs.array_members_Status.{stripes_of}
-use Rattle.array_type.specs.array_call_specs_Calls.{IsBehind, IsCausedBy, AreValuesKept}
-use Rattle.array_type.proofs.history_append_CallLaws.{losses-are, values-losses}
-use Rattle.array_type.proofs.array_call_specs_NowLaws.{values-more}
-use Rattle.array_type.specs.array_specs_Calls.{IsStepTaken}
+use Rattle.array_fixed_io.specs.raid_types_Sectors.{Sector}
+use Rattle.array_fixed_io.specs.raid_types_the_Who.{Who}
+use Rattle.array_fixed_io.specs.raid_types_the_Fault.{Fault}
+use Rattle.array_fixed_io.specs.raid_types_the_Fault_TheVariants.{Refused as IsRefusedWith, NoMemory}
+use Rattle.array_fixed_io.specs.sb_specs_the_Members.{Members}
+use Rattle.array_fixed_io.specs.history_the_Entry.{Entry}
+use Rattle.array_fixed_io.specs.history_the_Event.{Event}
+use Rattle.array_fixed_io.specs.history_the_Event_TheVariants.{Step, Refused}
+use Rattle.array_fixed_io.specs.history_the_StepKind.{StepKind}
+use Rattle.array_fixed_io.specs.history_Flat.{values_after, values_of}
+use Rattle.array_fixed_io.specs.history_Plain.{entries_of}
+use Rattle.array_fixed_io.specs.history_append_Losing.{losses_of}
+use Rattle.array_fixed_io.specs.array_members_Status.{stripes_of}
+use Rattle.array_fixed_io.specs.array_call_specs_Calls.{IsBehind, IsCausedBy, AreValuesKept}
+use Rattle.array_fixed_io.proofs.history_append_CallLaws.{losses-are, values-losses}
+use Rattle.array_fixed_io.proofs.array_call_specs_NowLaws.{values-more}
+use Rattle.array_fixed_io.specs.array_specs_Calls.{IsStepTaken}
 use Rattle.array_fixed_sync.specs.Resyncing.{is_at_end, IsUnsynced}
 
 -- ---- the list

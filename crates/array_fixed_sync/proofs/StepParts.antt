@@ -2,20 +2,20 @@
 use Rattle.std.proofs.Common.{◌≡◌, ◌≢◌, ℕ, Bool, true, false, Option, Some, None, Result, Ok, Err, List, is_some, refl, sym, ◌∙◌, ap, subst}
 use Rattle.std.specs.Prelude.{IsSome, IsTrue, OnOk, MatchOption, if◌then◌else◌}
 use Rattle.std.specs.Option.{option_map_or}
-use Rattle.array_type.specs.raid_types_the_Fault.{Fault}
-use Rattle.array_type.specs.raid_types_the_Fault_TheVariants.{NoMemory}
-use Rattle.array_type.specs.raid_types_the_Who.{Who}
-use Rattle.array_type.specs.sb_specs_the_Members.{Members}
-use Rattle.array_type.specs.history_the_Entry.{Entry}
-use Rattle.array_type.specs.history_the_StepKind.{StepKind}
-use Rattle.array_type.specs.history_the_StepKind_TheVariants.{RebuildTaken, RebuildEnded}
-use Rattle.array_type.specs.array_members_the_Work.{Work}
-use Rattle.array_type.specs.array_members_Lacking.{AreTooMany}
-use Rattle.array_type.specs.array_call_specs_Calls.{IsCausedBy, IsRebuildStepped, by_answer}
-use Rattle.array_type.specs.array_specs_Calls.{IsStepTaken}
+use Rattle.array_fixed_io.specs.raid_types_the_Fault.{Fault}
+use Rattle.array_fixed_io.specs.raid_types_the_Fault_TheVariants.{NoMemory}
+use Rattle.array_fixed_io.specs.raid_types_the_Who.{Who}
+use Rattle.array_fixed_io.specs.sb_specs_the_Members.{Members}
+use Rattle.array_fixed_io.specs.history_the_Entry.{Entry}
+use Rattle.array_fixed_io.specs.history_the_StepKind.{StepKind}
+use Rattle.array_fixed_io.specs.history_the_StepKind_TheVariants.{RebuildTaken, RebuildEnded}
+use Rattle.array_fixed_io.specs.array_members_the_Work.{Work}
+use Rattle.array_fixed_io.specs.array_members_Lacking.{AreTooMany}
+use Rattle.array_fixed_io.specs.array_call_specs_Calls.{IsCausedBy, IsRebuildStepped, by_answer}
+use Rattle.array_fixed_io.specs.array_specs_Calls.{IsStepTaken}
 use Rattle.array_fixed_sync.specs.Resyncing.{is_at_end, IsUnsynced}
 use Rattle.array_fixed_sync.specs.Resyncing as resync
-use Rattle.array_type.specs.Rebuilding.{rebuilt_role, rebuild_kind, rebuild_events, after_rebuild}
+use Rattle.array_fixed_io.specs.array_type_Rebuilding.{rebuilt_role, rebuild_kind, rebuild_events, after_rebuild}
 use Rattle.array_fixed_sync.specs.Stepping.{IsUndone, IsStepEntered, next_kind, after_step}
 use Rattle.array_fixed_sync.proofs.NextLaws.{of-resync, not-resynced}
 

@@ -1,12 +1,12 @@
 -- The next step of a pending resync.
 use Rattle.std.specs.Prelude.{ℕ, ◌==◌, Bool, true, false, if◌then◌else◌, Option, Some, None}
-use Rattle.array_type.specs.raid_types_the_Refusal.{Refusal}
-use Rattle.array_type.specs.sb_specs_the_Members.{Members}
-use Rattle.array_type.specs.history_the_StepKind.{StepKind}
-use Rattle.array_type.specs.history_the_StepKind_TheVariants.{ResyncStripe, ResyncEnded}
-use Rattle.array_type.specs.array_members_Status.{stripes_of}
-use Rattle.array_type.specs.array_members_Lacking.{AreTooMany}
-use Rattle.array_type.specs.array_call_specs_Calls.{one_more, IsUnmendable}
+use Rattle.array_fixed_io.specs.raid_types_the_Refusal.{Refusal}
+use Rattle.array_fixed_io.specs.sb_specs_the_Members.{Members}
+use Rattle.array_fixed_io.specs.history_the_StepKind.{StepKind}
+use Rattle.array_fixed_io.specs.history_the_StepKind_TheVariants.{ResyncStripe, ResyncEnded}
+use Rattle.array_fixed_io.specs.array_members_Status.{stripes_of}
+use Rattle.array_fixed_io.specs.array_members_Lacking.{AreTooMany}
+use Rattle.array_fixed_io.specs.array_call_specs_Calls.{one_more, IsUnmendable}
 
 -- a resync is pending, and has mended every stripe: its next step is its last
 abbrev pub is_at_end : Option ℕ → Members → Bool

@@ -1,21 +1,21 @@
 -- The next step of an array without a reshape: the resync's, where one is pending, or else a rebuild's.
 use Rattle.std.specs.Prelude.{◌≡◌, ◌⊎◌, ℕ, List, Some, MatchOption, Result, ⊤}
 use Rattle.std.specs.Option.{option_map_or}
-use Rattle.array_type.specs.raid_types_the_Fault.{Fault}
-use Rattle.array_type.specs.raid_types_the_Refusal.{Refusal}
-use Rattle.array_type.specs.raid_types_the_Who.{Who}
-use Rattle.array_type.specs.sb_specs_the_Members.{Members}
-use Rattle.array_type.specs.history_the_Entry.{Entry}
-use Rattle.array_type.specs.history_the_StepKind.{StepKind}
-use Rattle.array_type.specs.history_the_StepKind_TheVariants.{ResyncEnded, RebuildTaken, RebuildEnded}
-use Rattle.array_type.specs.array_members_the_Work.{Work}
-use Rattle.array_type.specs.array_members_Lacking.{AreTooMany}
-use Rattle.array_type.specs.array_members_Rebuilding.{Held}
-use Rattle.array_type.specs.array_call_specs_Calls.{IsRebuildStepped}
-use Rattle.array_type.specs.array_specs_Calls.{IsStepTaken}
+use Rattle.array_fixed_io.specs.raid_types_the_Fault.{Fault}
+use Rattle.array_fixed_io.specs.raid_types_the_Refusal.{Refusal}
+use Rattle.array_fixed_io.specs.raid_types_the_Who.{Who}
+use Rattle.array_fixed_io.specs.sb_specs_the_Members.{Members}
+use Rattle.array_fixed_io.specs.history_the_Entry.{Entry}
+use Rattle.array_fixed_io.specs.history_the_StepKind.{StepKind}
+use Rattle.array_fixed_io.specs.history_the_StepKind_TheVariants.{ResyncEnded, RebuildTaken, RebuildEnded}
+use Rattle.array_fixed_io.specs.array_members_the_Work.{Work}
+use Rattle.array_fixed_io.specs.array_members_Lacking.{AreTooMany}
+use Rattle.array_fixed_io.specs.array_members_Rebuilding.{Held}
+use Rattle.array_fixed_io.specs.array_call_specs_Calls.{IsRebuildStepped}
+use Rattle.array_fixed_io.specs.array_specs_Calls.{IsStepTaken}
 use Rattle.array_fixed_sync.specs.Resyncing.{is_at_end, IsUnsynced}
 use Rattle.array_fixed_sync.specs.Resyncing as resync
-use Rattle.array_type.specs.Rebuilding.{first_spare, rebuilt_role, rebuild_kind, rebuild_events, after_rebuild}
+use Rattle.array_fixed_io.specs.array_type_Rebuilding.{first_spare, rebuilt_role, rebuild_kind, rebuild_events, after_rebuild}
 
 -- why the next step isn't done, by what was under way in the old members
 abbrev pub IsUndone : Work → Members → Members → Refusal → Type 0

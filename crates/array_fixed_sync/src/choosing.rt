@@ -1,10 +1,10 @@
 //! Which role is rebuilt next.
 
 ghost use Rattle.std.specs.Prelude.{◌≡◌, ◌≤◌, length};
-ghost use Rattle.array_type.specs.sb_specs_Reading.{shape_of};
-ghost use Rattle.array_type.specs.Rebuilding.{first_recovering, first_unassigned};
+ghost use Rattle.array_fixed_io.specs.sb_specs_Reading.{shape_of};
+ghost use Rattle.array_fixed_io.specs.array_type_Rebuilding.{first_recovering, first_unassigned};
 
-use array_type::{Members, Role};
+use array_fixed_io::{Members, Role};
 
 /// The lowest role that a slot recovers, of so many.
 pub fn first_recovering(members: &Members, disks: u32) -> Option<u32>

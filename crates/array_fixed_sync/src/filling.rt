@@ -1,30 +1,30 @@
 //! The steps of a rebuild.
 
 ghost use Rattle.std.specs.Prelude.{◌≡◌, ◌≢◌, ◌+◌, ◌<◌, ◌≤◌, ◌∷◌, [], true, None, Err, OnOk, OnErr, false};
-ghost use Rattle.array_type.specs.raid_types_the_Fault_TheVariants.{NoMemory as WantsMemory};
-ghost use Rattle.array_type.specs.sb_specs_Reading.{shape_of, is_clean, list_length, is_reshaping};
-ghost use Rattle.array_type.specs.sb_specs_Reads.{has_spare};
-ghost use Rattle.array_type.specs.stripe_row_Rows.{reading_of, present};
-ghost use Rattle.array_type.specs.history_Flat.{now};
-ghost use Rattle.array_type.specs.history_Sound.{OpensFit};
-ghost use Rattle.array_type.specs.history_World.{opening_list};
-ghost use Rattle.array_type.specs.history_the_Event_TheVariants.{Step, Rebuilt as IsRebuilt};
-ghost use Rattle.array_type.specs.history_the_StepKind_TheVariants.{RebuildTaken as TakesRole, RebuildStripe as FillsStripe, RebuildEnded as EndsRebuild};
-ghost use Rattle.array_type.specs.crash_views_Regions.{DoWithout};
-ghost use Rattle.array_type.specs.array_members_Lacking.{AreTooMany, RowsStand};
-ghost use Rattle.array_type.specs.array_members_Placed.{is_unassigned, AreStillHeld};
-ghost use Rattle.array_type.specs.array_members_Rebuilding.{Held};
-ghost use Rattle.array_type.specs.array_members_Status.{rebuilt_of};
-ghost use Rattle.array_type.specs.array_call_specs_Calls.{AreSparesFewer, IsHeldOrGiven, AreHeldOrSpare, HasStripeUnbuilt, AreStripesRebuilt, IsWholeOrLost, IsRecoveredOrLost, with_rebuilt, by_answer, AreStepsFewer, AreStepsKept, IsRebuildStepped, IsCausedBy};
-ghost use Rattle.array_type.specs.history_invariant_Recorded.{IsCallGoing};
-ghost use Rattle.array_type.specs.array_specs_Parts.{still_left};
-ghost use Rattle.array_type.specs.array_specs_Calls.{moving_world};
-ghost use Rattle.array_type.specs.array_specs_Plans.{ArePlansKept};
-ghost use Rattle.array_type.specs.array_fixed_laws_Steps.{IsStepped, IsClosable, IsCallUnbroken};
+ghost use Rattle.array_fixed_io.specs.raid_types_the_Fault_TheVariants.{NoMemory as WantsMemory};
+ghost use Rattle.array_fixed_io.specs.sb_specs_Reading.{shape_of, is_clean, list_length, is_reshaping};
+ghost use Rattle.array_fixed_io.specs.sb_specs_Reads.{has_spare};
+ghost use Rattle.array_fixed_io.specs.stripe_row_Rows.{reading_of, present};
+ghost use Rattle.array_fixed_io.specs.history_Flat.{now};
+ghost use Rattle.array_fixed_io.specs.history_Sound.{OpensFit};
+ghost use Rattle.array_fixed_io.specs.history_World.{opening_list};
+ghost use Rattle.array_fixed_io.specs.history_the_Event_TheVariants.{Step, Rebuilt as IsRebuilt};
+ghost use Rattle.array_fixed_io.specs.history_the_StepKind_TheVariants.{RebuildTaken as TakesRole, RebuildStripe as FillsStripe, RebuildEnded as EndsRebuild};
+ghost use Rattle.array_fixed_io.specs.crash_views_Regions.{DoWithout};
+ghost use Rattle.array_fixed_io.specs.array_members_Lacking.{AreTooMany, RowsStand};
+ghost use Rattle.array_fixed_io.specs.array_members_Placed.{is_unassigned, AreStillHeld};
+ghost use Rattle.array_fixed_io.specs.array_members_Rebuilding.{Held};
+ghost use Rattle.array_fixed_io.specs.array_members_Status.{rebuilt_of};
+ghost use Rattle.array_fixed_io.specs.array_call_specs_Calls.{AreSparesFewer, IsHeldOrGiven, AreHeldOrSpare, HasStripeUnbuilt, AreStripesRebuilt, IsWholeOrLost, IsRecoveredOrLost, with_rebuilt, by_answer, AreStepsFewer, AreStepsKept, IsRebuildStepped, IsCausedBy};
+ghost use Rattle.array_fixed_io.specs.history_invariant_Recorded.{IsCallGoing};
+ghost use Rattle.array_fixed_io.specs.array_specs_Parts.{still_left};
+ghost use Rattle.array_fixed_io.specs.array_specs_Calls.{moving_world};
+ghost use Rattle.array_fixed_io.specs.array_specs_Plans.{ArePlansKept};
+ghost use Rattle.array_fixed_io.specs.array_fixed_laws_Steps.{IsStepped, IsClosable, IsCallUnbroken};
 
 use crate::naming::{fill_and_name, give_and_name, record_and_name};
 use crate::refusing::refuse_step;
-use array_type::{
+use array_fixed_io::{
     Array, Bank, Event, Fault, StepKind, Who, append_after_losses, append_entry, append_lost,
     check_going, is_unassigned, left_at_rest, newly_unassigned, recovering_slot, set_rebuilt,
     shape_in, too_many, unassigned_roles, with, without,

@@ -10,6 +10,9 @@ mod refusing;
 mod resyncing;
 mod stepping;
 
-pub use array_type::{Array, first_spare, set_rebuilt, steps_left, unassigned_roles};
+pub use array_fixed_io::{
+    Array, Bank, Entries, Epoch, Event, Members, PhasesLeft, Pieces, StepKind, Work, first_spare,
+    is_missing, planned_left, read, set_rebuilt, steps_left, unassigned_roles, write,
+};
 pub use choosing::first_recovering;
 pub use stepping::still_step;

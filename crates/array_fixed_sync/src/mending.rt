@@ -1,26 +1,26 @@
 //! The steps of a pending resync.
 
 ghost use Rattle.std.specs.Prelude.{◌≡◌, ◌≢◌, ◌+◌, ◌≤◌, true, false, None, OnOk, OnErr};
-ghost use Rattle.array_type.specs.sb_specs_Reading.{shape_of, is_clean, list_length, is_reshaping};
-ghost use Rattle.array_type.specs.stripe_row_Rows.{reading_of, present};
-ghost use Rattle.array_type.specs.history_Flat.{now};
-ghost use Rattle.array_type.specs.history_Sound.{OpensFit};
-ghost use Rattle.array_type.specs.history_World.{opening_list};
-ghost use Rattle.array_type.specs.history_the_StepKind_TheVariants.{ResyncStripe as ResyncsStripe, ResyncEnded as EndsResync};
-ghost use Rattle.array_type.specs.array_members_Lacking.{AreHoldersFlushed, AreTooMany, RowsStand};
-ghost use Rattle.array_type.specs.crash_views_Regions.{DoWithout};
-ghost use Rattle.array_type.specs.array_members_Placed.{AreStillHeld};
-ghost use Rattle.array_type.specs.array_members_Rebuilding.{Held};
-ghost use Rattle.array_type.specs.sb_safe_updates_First.{write_refusal, IsFirstRefused};
-ghost use Rattle.array_type.specs.array_call_specs_Calls.{AreSparesFewer, HasStripeLeft, IsAllSynced, one_more, AreStepsFewer, AreStepsKept, by_answer, IsCausedBy, IsUnmendable};
-ghost use Rattle.array_type.specs.history_invariant_Recorded.{IsCallGoing};
-ghost use Rattle.array_type.specs.array_specs_Parts.{still_left};
-ghost use Rattle.array_type.specs.array_specs_Calls.{moving_world, IsStepTaken};
-ghost use Rattle.array_type.specs.array_specs_Plans.{ArePlansKept};
-ghost use Rattle.array_type.specs.array_fixed_laws_Steps.{IsStepped, IsClosable};
+ghost use Rattle.array_fixed_io.specs.sb_specs_Reading.{shape_of, is_clean, list_length, is_reshaping};
+ghost use Rattle.array_fixed_io.specs.stripe_row_Rows.{reading_of, present};
+ghost use Rattle.array_fixed_io.specs.history_Flat.{now};
+ghost use Rattle.array_fixed_io.specs.history_Sound.{OpensFit};
+ghost use Rattle.array_fixed_io.specs.history_World.{opening_list};
+ghost use Rattle.array_fixed_io.specs.history_the_StepKind_TheVariants.{ResyncStripe as ResyncsStripe, ResyncEnded as EndsResync};
+ghost use Rattle.array_fixed_io.specs.array_members_Lacking.{AreHoldersFlushed, AreTooMany, RowsStand};
+ghost use Rattle.array_fixed_io.specs.crash_views_Regions.{DoWithout};
+ghost use Rattle.array_fixed_io.specs.array_members_Placed.{AreStillHeld};
+ghost use Rattle.array_fixed_io.specs.array_members_Rebuilding.{Held};
+ghost use Rattle.array_fixed_io.specs.sb_safe_updates_First.{write_refusal, IsFirstRefused};
+ghost use Rattle.array_fixed_io.specs.array_call_specs_Calls.{AreSparesFewer, HasStripeLeft, IsAllSynced, one_more, AreStepsFewer, AreStepsKept, by_answer, IsCausedBy, IsUnmendable};
+ghost use Rattle.array_fixed_io.specs.history_invariant_Recorded.{IsCallGoing};
+ghost use Rattle.array_fixed_io.specs.array_specs_Parts.{still_left};
+ghost use Rattle.array_fixed_io.specs.array_specs_Calls.{moving_world, IsStepTaken};
+ghost use Rattle.array_fixed_io.specs.array_specs_Plans.{ArePlansKept};
+ghost use Rattle.array_fixed_io.specs.array_fixed_laws_Steps.{IsStepped, IsClosable};
 
 use crate::refusing::refuse_step;
-use array_type::{
+use array_fixed_io::{
     Array, Bank, Event, Fault, StepKind, Who, append_after_losses, check_going,
     first_resync_refusal, flush_and_mark, left_at_rest, newly_unassigned, resync_rows, shape_in,
     too_many, unassigned_roles,

@@ -1,28 +1,28 @@
 //! The steps of a rebuild, behind which each role that no slot holds is named.
 
 ghost use Rattle.std.specs.Prelude.{◌≡◌, ◌≤◌, ◌<◌, ℕ, true, false, length, None, vec_capacity, MatchOption, ⊤};
-ghost use Rattle.array_type.specs.bank_Given.{NeverFalls};
-ghost use Rattle.array_type.specs.raid_types_Sectors.{Sector};
-ghost use Rattle.array_type.specs.raid_types_the_Role_TheVariants.{Whole as IsWhole, Recovering as IsRecovering};
-ghost use Rattle.array_type.specs.sb_specs_Reading.{is_reshaping, shape_of, is_clean, role_state, rows_held};
-ghost use Rattle.array_type.specs.sb_specs_Reads.{has_spare};
-ghost use Rattle.array_type.specs.stripe_row_Rows.{reading_of, present};
-ghost use Rattle.array_type.specs.stripe_list_Writing.{HasFull};
-ghost use Rattle.array_type.specs.history_World.{World};
-ghost use Rattle.array_type.specs.history_Sound.{OpensFit};
-ghost use Rattle.array_type.specs.crash_views_Regions.{DoWithout};
-ghost use Rattle.array_type.specs.crash_views_Views.{Ledger};
-ghost use Rattle.array_type.specs.crash_safety_laws_Marking.{AreOthersPresent};
-ghost use Rattle.array_type.specs.crash_safety_laws_Safety.{HasLiveSlot, HasRoomLeft, IsRisen};
-ghost use Rattle.array_type.specs.crash_safety_laws_Steady.{AreUnlost, IsSafeOver, KeepsSafe, AreGoneTold, IsUncleanTold, AreWritesAllowed, given_back};
-ghost use Rattle.array_type.specs.array_members_Lacking.{HaveFailedSince, RowsStand, LacksTooMany, DataStandsAmong, RowsStandAmong, IsOfStripe};
-ghost use Rattle.array_type.specs.array_members_Moving.{Grows, IsMoved};
-ghost use Rattle.array_type.specs.array_members_Placed.{is_unassigned, IsPlaced};
-ghost use Rattle.array_type.specs.array_members_Rebuilding.{AreSparesFree, with_recovering, with_whole, AreRowsFull, IsFilledAmong};
-ghost use Rattle.array_type.specs.array_members_Status.{stripes_of};
-ghost use Rattle.array_type.specs.sb_safe_updates_Named.{AreNamedMissing};
+ghost use Rattle.array_fixed_io.specs.bank_Given.{NeverFalls};
+ghost use Rattle.array_fixed_io.specs.raid_types_Sectors.{Sector};
+ghost use Rattle.array_fixed_io.specs.raid_types_the_Role_TheVariants.{Whole as IsWhole, Recovering as IsRecovering};
+ghost use Rattle.array_fixed_io.specs.sb_specs_Reading.{is_reshaping, shape_of, is_clean, role_state, rows_held};
+ghost use Rattle.array_fixed_io.specs.sb_specs_Reads.{has_spare};
+ghost use Rattle.array_fixed_io.specs.stripe_row_Rows.{reading_of, present};
+ghost use Rattle.array_fixed_io.specs.stripe_list_Writing.{HasFull};
+ghost use Rattle.array_fixed_io.specs.history_World.{World};
+ghost use Rattle.array_fixed_io.specs.history_Sound.{OpensFit};
+ghost use Rattle.array_fixed_io.specs.crash_views_Regions.{DoWithout};
+ghost use Rattle.array_fixed_io.specs.crash_views_Views.{Ledger};
+ghost use Rattle.array_fixed_io.specs.crash_safety_laws_Marking.{AreOthersPresent};
+ghost use Rattle.array_fixed_io.specs.crash_safety_laws_Safety.{HasLiveSlot, HasRoomLeft, IsRisen};
+ghost use Rattle.array_fixed_io.specs.crash_safety_laws_Steady.{AreUnlost, IsSafeOver, KeepsSafe, AreGoneTold, IsUncleanTold, AreWritesAllowed, given_back};
+ghost use Rattle.array_fixed_io.specs.array_members_Lacking.{HaveFailedSince, RowsStand, LacksTooMany, DataStandsAmong, RowsStandAmong, IsOfStripe};
+ghost use Rattle.array_fixed_io.specs.array_members_Moving.{Grows, IsMoved};
+ghost use Rattle.array_fixed_io.specs.array_members_Placed.{is_unassigned, IsPlaced};
+ghost use Rattle.array_fixed_io.specs.array_members_Rebuilding.{AreSparesFree, with_recovering, with_whole, AreRowsFull, IsFilledAmong};
+ghost use Rattle.array_fixed_io.specs.array_members_Status.{stripes_of};
+ghost use Rattle.array_fixed_io.specs.sb_safe_updates_Named.{AreNamedMissing};
 
-use array_type::{
+use array_fixed_io::{
     Bank, Filled, Members, Shape, fill, flush_and_record, give_role, is_unassigned, record_missing,
 };
 

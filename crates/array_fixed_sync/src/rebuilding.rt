@@ -1,26 +1,26 @@
 //! The next step of a rebuild.
 
 ghost use Rattle.std.specs.Prelude.{◌≡◌, ◌≢◌, ◌+◌, ◌≤◌, None, Err, OnOk, OnErr, false};
-ghost use Rattle.array_type.specs.raid_types_the_Fault_TheVariants.{NoMemory as WantsMemory};
-ghost use Rattle.array_type.specs.sb_specs_Reading.{is_clean, list_length, is_reshaping};
-ghost use Rattle.array_type.specs.stripe_row_Rows.{present};
-ghost use Rattle.array_type.specs.history_World.{opening_list};
-ghost use Rattle.array_type.specs.history_Flat.{now};
-ghost use Rattle.array_type.specs.history_Sound.{OpensFit};
-ghost use Rattle.array_type.specs.history_the_StepKind_TheVariants.{RebuildTaken as TakesRole, RebuildEnded as EndsRebuild};
-ghost use Rattle.array_type.specs.array_members_Lacking.{AreTooMany, RowsStand};
-ghost use Rattle.array_type.specs.crash_views_Regions.{DoWithout};
-ghost use Rattle.array_type.specs.array_call_specs_Calls.{AreHeldOrSpare, IsWholeOrLost, by_answer, AreStepsFewer, AreStepsKept, AreValuesKept, IsRebuildStepped, IsCausedBy};
-ghost use Rattle.array_type.specs.history_invariant_Recorded.{IsCallGoing};
-ghost use Rattle.array_type.specs.array_specs_Parts.{still_left};
-ghost use Rattle.array_type.specs.array_specs_Calls.{moving_world};
-ghost use Rattle.array_type.specs.array_specs_Plans.{ArePlansKept};
-ghost use Rattle.array_type.specs.array_fixed_laws_Steps.{IsStepped, IsClosable, IsCallUnbroken};
-ghost use Rattle.array_type.specs.Rebuilding.{rebuilt_role, rebuild_kind, rebuild_events, after_rebuild, IsRebuildNext, IsGivenToSpare, IsHeldOrNext};
+ghost use Rattle.array_fixed_io.specs.raid_types_the_Fault_TheVariants.{NoMemory as WantsMemory};
+ghost use Rattle.array_fixed_io.specs.sb_specs_Reading.{is_clean, list_length, is_reshaping};
+ghost use Rattle.array_fixed_io.specs.stripe_row_Rows.{present};
+ghost use Rattle.array_fixed_io.specs.history_World.{opening_list};
+ghost use Rattle.array_fixed_io.specs.history_Flat.{now};
+ghost use Rattle.array_fixed_io.specs.history_Sound.{OpensFit};
+ghost use Rattle.array_fixed_io.specs.history_the_StepKind_TheVariants.{RebuildTaken as TakesRole, RebuildEnded as EndsRebuild};
+ghost use Rattle.array_fixed_io.specs.array_members_Lacking.{AreTooMany, RowsStand};
+ghost use Rattle.array_fixed_io.specs.crash_views_Regions.{DoWithout};
+ghost use Rattle.array_fixed_io.specs.array_call_specs_Calls.{AreHeldOrSpare, IsWholeOrLost, by_answer, AreStepsFewer, AreStepsKept, AreValuesKept, IsRebuildStepped, IsCausedBy};
+ghost use Rattle.array_fixed_io.specs.history_invariant_Recorded.{IsCallGoing};
+ghost use Rattle.array_fixed_io.specs.array_specs_Parts.{still_left};
+ghost use Rattle.array_fixed_io.specs.array_specs_Calls.{moving_world};
+ghost use Rattle.array_fixed_io.specs.array_specs_Plans.{ArePlansKept};
+ghost use Rattle.array_fixed_io.specs.array_fixed_laws_Steps.{IsStepped, IsClosable, IsCallUnbroken};
+ghost use Rattle.array_fixed_io.specs.array_type_Rebuilding.{rebuilt_role, rebuild_kind, rebuild_events, after_rebuild, IsRebuildNext, IsGivenToSpare, IsHeldOrNext};
 
 use crate::choosing::{first_recovering, first_unassigned};
 use crate::filling::{end_rebuild, rebuild_stripe, take_role};
-use array_type::{Array, Bank, Fault, Who, first_spare};
+use array_fixed_io::{Array, Bank, Fault, Who, first_spare};
 
 // Does the next step of a rebuild: of the lowest role that a slot recovers, its next stripe, or, where all are rebuilt, its
 // end; or else gives the lowest role that no slot holds to the lowest spare. Where the slot that is rebuilt is lost, this

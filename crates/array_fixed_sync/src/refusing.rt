@@ -1,17 +1,17 @@
 //! A step that is refused before anything was done.
 
-ghost use Rattle.array_type.specs.sb_specs_Reading.{is_reshaping};
+ghost use Rattle.array_fixed_io.specs.sb_specs_Reading.{is_reshaping};
 ghost use Rattle.std.specs.Prelude.{◌≡◌, ◌≢◌, ◌+◌, ◌≤◌, None, false};
-ghost use Rattle.array_type.specs.history_the_Event_TheVariants.{Refused};
-ghost use Rattle.array_type.specs.array_members_Placed.{AreStillHeld};
-ghost use Rattle.array_type.specs.array_members_Rebuilding.{Held};
-ghost use Rattle.array_type.specs.array_members_Lacking.{AreTooMany};
-ghost use Rattle.array_type.specs.array_call_specs_Calls.{IsBehind, IsUnmendable, AreSparesFewer, AreStepsKept};
-ghost use Rattle.array_type.specs.history_invariant_Recorded.{IsCallGoing};
-ghost use Rattle.array_type.specs.array_specs_Parts.{still_left};
-ghost use Rattle.array_type.specs.array_fixed_laws_Steps.{IsStepped};
+ghost use Rattle.array_fixed_io.specs.history_the_Event_TheVariants.{Refused};
+ghost use Rattle.array_fixed_io.specs.array_members_Placed.{AreStillHeld};
+ghost use Rattle.array_fixed_io.specs.array_members_Rebuilding.{Held};
+ghost use Rattle.array_fixed_io.specs.array_members_Lacking.{AreTooMany};
+ghost use Rattle.array_fixed_io.specs.array_call_specs_Calls.{IsBehind, IsUnmendable, AreSparesFewer, AreStepsKept};
+ghost use Rattle.array_fixed_io.specs.history_invariant_Recorded.{IsCallGoing};
+ghost use Rattle.array_fixed_io.specs.array_specs_Parts.{still_left};
+ghost use Rattle.array_fixed_io.specs.array_fixed_laws_Steps.{IsStepped};
 
-use array_type::{Array, Bank, Event, Refusal, Who, append_entry, check_going};
+use array_fixed_io::{Array, Bank, Event, Refusal, Who, append_entry, check_going};
 
 // Enters that a step is refused, before anything was done.
 pub(crate) fn refuse_step<B: Bank>(still: &mut Array<B>, who: Who, refusal: Refusal)

@@ -1,25 +1,25 @@
 //! The next step of a pending resync.
 
 ghost use Rattle.std.specs.Prelude.{◌≡◌, ◌≢◌, ◌+◌, ◌≤◌, OnOk, OnErr, IsSome, IsTrue, false};
-ghost use Rattle.array_type.specs.sb_specs_Reading.{is_clean, list_length, is_reshaping};
-ghost use Rattle.array_type.specs.stripe_row_Rows.{reading_of, present};
-ghost use Rattle.array_type.specs.history_World.{opening_list};
-ghost use Rattle.array_type.specs.history_Flat.{now};
-ghost use Rattle.array_type.specs.history_Sound.{OpensFit};
-ghost use Rattle.array_type.specs.array_members_Placed.{AreStillHeld};
-ghost use Rattle.array_type.specs.array_members_Lacking.{AreHoldersFlushed, RowsStand};
-ghost use Rattle.array_type.specs.array_members_Rebuilding.{Held};
-ghost use Rattle.array_type.specs.crash_views_Regions.{DoWithout};
-ghost use Rattle.array_type.specs.array_call_specs_Calls.{AreSparesFewer, by_answer, AreStepsFewer, AreStepsKept, AreValuesKept, IsCausedBy};
-ghost use Rattle.array_type.specs.history_invariant_Recorded.{IsCallGoing};
-ghost use Rattle.array_type.specs.array_specs_Parts.{still_left};
-ghost use Rattle.array_type.specs.array_specs_Calls.{moving_world, IsStepTaken};
-ghost use Rattle.array_type.specs.array_specs_Plans.{ArePlansKept};
-ghost use Rattle.array_type.specs.array_fixed_laws_Steps.{IsStepped, IsClosable};
+ghost use Rattle.array_fixed_io.specs.sb_specs_Reading.{is_clean, list_length, is_reshaping};
+ghost use Rattle.array_fixed_io.specs.stripe_row_Rows.{reading_of, present};
+ghost use Rattle.array_fixed_io.specs.history_World.{opening_list};
+ghost use Rattle.array_fixed_io.specs.history_Flat.{now};
+ghost use Rattle.array_fixed_io.specs.history_Sound.{OpensFit};
+ghost use Rattle.array_fixed_io.specs.array_members_Placed.{AreStillHeld};
+ghost use Rattle.array_fixed_io.specs.array_members_Lacking.{AreHoldersFlushed, RowsStand};
+ghost use Rattle.array_fixed_io.specs.array_members_Rebuilding.{Held};
+ghost use Rattle.array_fixed_io.specs.crash_views_Regions.{DoWithout};
+ghost use Rattle.array_fixed_io.specs.array_call_specs_Calls.{AreSparesFewer, by_answer, AreStepsFewer, AreStepsKept, AreValuesKept, IsCausedBy};
+ghost use Rattle.array_fixed_io.specs.history_invariant_Recorded.{IsCallGoing};
+ghost use Rattle.array_fixed_io.specs.array_specs_Parts.{still_left};
+ghost use Rattle.array_fixed_io.specs.array_specs_Calls.{moving_world, IsStepTaken};
+ghost use Rattle.array_fixed_io.specs.array_specs_Plans.{ArePlansKept};
+ghost use Rattle.array_fixed_io.specs.array_fixed_laws_Steps.{IsStepped, IsClosable};
 ghost use Rattle.array_fixed_sync.specs.Resyncing.{is_at_end, next_kind, after_step, IsUnsynced};
 
 use crate::mending::{end_resync, resync_stripe};
-use array_type::{Array, Bank, Fault, Who};
+use array_fixed_io::{Array, Bank, Fault, Who};
 
 // Does the next step of the pending resync: mends its next stripe, or, where every stripe is mended, flushes the members and marks
 // the array clean. Refusals: `TooManyMissing`, and at a stripe `NotResynced`. It takes no memory.

@@ -1,29 +1,29 @@
 //! The next step of an array without a reshape.
 
 ghost use Rattle.std.specs.Prelude.{◌≡◌, ◌≢◌, ◌+◌, ◌<◌, ◌≤◌, is_some, if◌then◌else◌, Err, OnOk, OnErr, IsTrue, false};
-ghost use Rattle.array_type.specs.raid_types_the_Fault_TheVariants.{NoMemory as WantsMemory};
-ghost use Rattle.array_type.specs.sb_specs_Reading.{is_clean, list_length, is_reshaping};
-ghost use Rattle.array_type.specs.stripe_row_Rows.{reading_of, present};
-ghost use Rattle.array_type.specs.history_World.{opening_list};
-ghost use Rattle.array_type.specs.history_Flat.{now};
-ghost use Rattle.array_type.specs.history_Sound.{OpensFit};
-ghost use Rattle.array_type.specs.history_the_StepKind_TheVariants.{RebuildTaken as TakesRole, RebuildEnded as EndsRebuild};
-ghost use Rattle.array_type.specs.array_members_Status.{left_of};
-ghost use Rattle.array_type.specs.array_members_Lacking.{AreHoldersFlushed, RowsStand};
-ghost use Rattle.array_type.specs.crash_views_Regions.{DoWithout};
-ghost use Rattle.array_type.specs.array_call_specs_Calls.{AreHeldOrSpare, IsWholeOrLost, by_answer, AreStepsFewer, AreStepsKept, AreValuesKept, IsCausedBy};
-ghost use Rattle.array_type.specs.history_invariant_Recorded.{IsCallGoing};
-ghost use Rattle.array_type.specs.array_specs_Parts.{still_left};
-ghost use Rattle.array_type.specs.array_specs_Calls.{moving_world};
-ghost use Rattle.array_type.specs.array_specs_Plans.{ArePlansKept};
-ghost use Rattle.array_type.specs.array_fixed_laws_Steps.{IsStepped, IsClosable, IsCallUnbroken};
+ghost use Rattle.array_fixed_io.specs.raid_types_the_Fault_TheVariants.{NoMemory as WantsMemory};
+ghost use Rattle.array_fixed_io.specs.sb_specs_Reading.{is_clean, list_length, is_reshaping};
+ghost use Rattle.array_fixed_io.specs.stripe_row_Rows.{reading_of, present};
+ghost use Rattle.array_fixed_io.specs.history_World.{opening_list};
+ghost use Rattle.array_fixed_io.specs.history_Flat.{now};
+ghost use Rattle.array_fixed_io.specs.history_Sound.{OpensFit};
+ghost use Rattle.array_fixed_io.specs.history_the_StepKind_TheVariants.{RebuildTaken as TakesRole, RebuildEnded as EndsRebuild};
+ghost use Rattle.array_fixed_io.specs.array_members_Status.{left_of};
+ghost use Rattle.array_fixed_io.specs.array_members_Lacking.{AreHoldersFlushed, RowsStand};
+ghost use Rattle.array_fixed_io.specs.crash_views_Regions.{DoWithout};
+ghost use Rattle.array_fixed_io.specs.array_call_specs_Calls.{AreHeldOrSpare, IsWholeOrLost, by_answer, AreStepsFewer, AreStepsKept, AreValuesKept, IsCausedBy};
+ghost use Rattle.array_fixed_io.specs.history_invariant_Recorded.{IsCallGoing};
+ghost use Rattle.array_fixed_io.specs.array_specs_Parts.{still_left};
+ghost use Rattle.array_fixed_io.specs.array_specs_Calls.{moving_world};
+ghost use Rattle.array_fixed_io.specs.array_specs_Plans.{ArePlansKept};
+ghost use Rattle.array_fixed_io.specs.array_fixed_laws_Steps.{IsStepped, IsClosable, IsCallUnbroken};
 ghost use Rattle.array_fixed_sync.specs.Resyncing.{is_at_end};
-ghost use Rattle.array_type.specs.Rebuilding.{rebuilt_role, IsGivenToSpare};
+ghost use Rattle.array_fixed_io.specs.array_type_Rebuilding.{rebuilt_role, IsGivenToSpare};
 ghost use Rattle.array_fixed_sync.specs.Stepping.{IsUndone, IsEnd, IsStepEntered, next_kind, after_step, IsHeldOrDue};
 
 use crate::rebuilding::rebuild_step;
 use crate::resyncing::resync_step;
-use array_type::{Array, Bank, Fault, Who};
+use array_fixed_io::{Array, Bank, Fault, Who};
 
 /// Does the next step of an array without a reshape, of which one is left besides those of the phases ahead: of the resync where one is
 /// pending, or else of a rebuild. Where the slot that is rebuilt is lost, only the loss is entered. Refusals: `TooManyMissing`, and at a

@@ -16,7 +16,6 @@ pub use Rattle.array_transition.proofs.array_reshaping_laws_ResyncLaws
 pub use Rattle.array_transition.proofs.array_fixed_invariant_Whole
 pub use Rattle.array_transition.proofs.array_fixed_laws_PlansKept
 pub use Rattle.array_transition.proofs.array_fixed_sync_Lowest
-pub use Rattle.array_transition.proofs.array_fixed_sync_NextLaws
 pub use Rattle.array_reply_specs.proofs.array_call_specs_LossLaws
 pub use Rattle.array_reply_specs.proofs.array_call_specs_ReadyLaws
 pub use Rattle.array_reply_specs.proofs.array_call_specs_ReplyLaws
@@ -49,3 +48,5 @@ pub use Rattle.array_reply_specs.proofs.bank_Causes
 pub use Rattle.array_reply_specs.proofs.raid_types_Tabulated
 pub use Rattle.array_transition.proofs.array_reshaping_laws_WriteLaws
 pub use Rattle.array_transition.proofs.array_call_specs_RecordLaws
+pub use Rattle.array_transition.proofs.array_type_Rest
+pub use Rattle.array_transition.proofs.array_type_Alike

@@ -34,8 +34,6 @@ pub use Rattle.array_transition.specs.array_fixed_invariant_Still
 pub use Rattle.array_transition.specs.array_fixed_laws_Plain
 pub use Rattle.array_transition.specs.array_fixed_laws_Steps
 pub use Rattle.array_transition.specs.array_fixed_sync_Rebuilding
-pub use Rattle.array_transition.specs.array_fixed_sync_Resyncing
-pub use Rattle.array_transition.specs.array_fixed_sync_Stepping
 pub use Rattle.array_reply_specs.specs.array_call_specs_Adopting
 pub use Rattle.array_reply_specs.specs.array_call_specs_Calls
 pub use Rattle.array_reply_specs.specs.array_call_specs_Kept
@@ -73,3 +71,4 @@ pub use Rattle.array_reply_specs.specs.raid_types_the_Role_TheVariants
 pub use Rattle.array_reply_specs.specs.raid_types_the_Shape
 pub use Rattle.array_reply_specs.specs.raid_types_the_Status
 pub use Rattle.array_reply_specs.specs.raid_types_the_Who
+pub use Rattle.array_transition.specs.array_type_One

@@ -7,13 +7,15 @@ mod judging;
 mod planning;
 mod refusing;
 
-pub use array_calls::{answer, make_room};
+pub use array_calls::{
+    Opened, add, adopt, answer, examine, fail, flush, halt, make_room, set_visible, status, stop,
+};
 pub use array_reply_specs::{
     Bank, Fault, NoMemory, Phase, Refusal, Shape, Who, final_in, shape_in,
 };
 pub use array_transition::{
     Array, Course, Due, Room, append_absent, begin_reshape, due_step, finish_reshape,
-    first_recovering, found_numbers, list_sectors, room_for, step, steps_left, still_step, zeros,
+    found_numbers, list_sectors, room_for, step, steps_left, zeros,
 };
 pub use backing::can_back;
 pub use planning::{PlannedGrow, plan_grow};

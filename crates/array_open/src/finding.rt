@@ -18,8 +18,7 @@ ghost use Rattle.array_open.specs.Found.{IsRunningFound};
 
 use crate::adopting::adopt_reshaping;
 use array_create_assemble::{Bank, Fault, Opened, find, is_reshaping};
-use array_calls::{Opened as OpenedAtRest, adopt};
-use array_steps::Running;
+use array_steps::{Opened as OpenedAtRest, Running, adopt};
 use std::alloc::Global;
 
 // The array runs that has no active reshape, and whose backup holds no role and is no spare.

@@ -9,10 +9,10 @@ mod finding;
 
 pub use adopting::adopt_reshaping;
 pub use array_create_assemble::{CreateSpec, read_superblock};
-pub use array_calls::set_visible as limit_at_rest;
 pub use array_steps::{
     Array, PlannedGrow, Running, add, check_array, fail, flush, plan_grow, read_at_rest,
-    read_in_reshape, refuse_grow, refuse_limit, status, steps, write_at_rest, write_in_reshape,
+    read_in_reshape, refuse_grow, refuse_limit, set_visible as limit_at_rest, status, steps,
+    write_at_rest, write_in_reshape,
 };
 pub use creating::create_array;
 pub use ending::{halt, stop};

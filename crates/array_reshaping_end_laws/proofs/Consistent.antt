@@ -1,37 +1,37 @@
 -- Contents are consistent under a shape where the superblocks say it alone and each row stands; and where too few roles are left, too many are gone.
 use Rattle.std.proofs.Common.{◌≡◌, inl, inr, ℕ, ◌<◌, ◌≤◌, Bool, false, cond, Option, Some, None, List, length, MatchOption, sym, ◌∙◌, ap, subst, arith}
 use Rattle.std.proofs.lemmas.Bool.{cases_lt}
-use Rattle.array_reshaping_invariant.specs.raid_types_Shapes.{tolerance}
-use Rattle.array_reshaping_invariant.specs.raid_types_Sectors.{Sector}
-use Rattle.array_reshaping_invariant.specs.bank_the_Operation.{Operation}
-use Rattle.array_reshaping_invariant.specs.bank_Given.{Given}
-use Rattle.array_reshaping_invariant.specs.bank_Tape.{Contents, disk}
-use Rattle.array_reshaping_invariant.proofs.raid_parity_Columns.{tabulate-same}
-use Rattle.array_reshaping_invariant.specs.sb_specs_the_Members.{Members}
-use Rattle.array_reshaping_invariant.specs.sb_specs_Reading.{Scope, Reading, reading, is_reshaping, shape_of, target_of}
-use Rattle.array_reshaping_invariant.specs.stripe_row_Rows.{reading_of, present, is_missing, missing_count}
-use Rattle.array_reshaping_invariant.specs.stripe_row_Rows as rows
-use Rattle.array_reshaping_invariant.specs.history_the_Entry.{Entry}
-use Rattle.array_reshaping_invariant.specs.history_Losses.{is_gone_after}
-use Rattle.array_reshaping_invariant.specs.history_Reshaped.{IsConsistent, IsConsistentBy, IsConsistentAt}
-use Rattle.array_reshaping_invariant.specs.history_Stands.{held_row, held_sector}
-use Rattle.array_reshaping_invariant.specs.history_World.{World, contents_at}
-use Rattle.array_reshaping_invariant.specs.crash_views_Regions.{DoWithout, IsReadOf}
-use Rattle.array_reshaping_invariant.specs.crash_views_Views.{Ledger}
-use Rattle.array_reshaping_invariant.specs.crash_views_Windows.{RowsStand}
-use Rattle.array_reshaping_invariant.proofs.crash_views_Alike.{shape-alike}
-use Rattle.array_reshaping_invariant.proofs.crash_views_SoundViews.{good-row}
-use Rattle.array_reshaping_invariant.proofs.crash_views_Standing.{held-same}
-use Rattle.array_reshaping_invariant.specs.crash_safety_laws_Changing.{IsSafeChange}
-use Rattle.array_reshaping_invariant.specs.crash_safety_laws_Steady.{AreUnlost, IsNamedNow}
-use Rattle.array_reshaping_invariant.proofs.crash_safety_laws_Steady.{held-read}
-use Rattle.array_reshaping_invariant.proofs.crash_reshape_laws_EndLaws.{fewer-pass}
-use Rattle.array_reshaping_invariant.specs.array_members_Placed.{IsPlaced}
-use Rattle.array_reshaping_invariant.proofs.array_members_Fit.{valid}
-use Rattle.array_reshaping_invariant.proofs.array_members_LiveLeft.{without-left}
-use Rattle.array_reshaping_invariant.proofs.array_members_Still.{count-still, without-still}
-use Rattle.array_reshaping_invariant.proofs.history_invariant_Lengths.{now-drawn}
-use Rattle.array_reshaping_invariant.specs.history_invariant_laws_Reliable.{AreToldGone}
+use Rattle.array_fixed_invariant.specs.raid_types_Shapes.{tolerance}
+use Rattle.array_fixed_invariant.specs.raid_types_Sectors.{Sector}
+use Rattle.array_fixed_invariant.specs.bank_the_Operation.{Operation}
+use Rattle.array_fixed_invariant.specs.bank_Given.{Given}
+use Rattle.array_fixed_invariant.specs.bank_Tape.{Contents, disk}
+use Rattle.array_fixed_invariant.proofs.raid_parity_Columns.{tabulate-same}
+use Rattle.array_fixed_invariant.specs.sb_specs_the_Members.{Members}
+use Rattle.array_fixed_invariant.specs.sb_specs_Reading.{Scope, Reading, reading, is_reshaping, shape_of, target_of}
+use Rattle.array_fixed_invariant.specs.stripe_row_Rows.{reading_of, present, is_missing, missing_count}
+use Rattle.array_fixed_invariant.specs.stripe_row_Rows as rows
+use Rattle.array_fixed_invariant.specs.history_the_Entry.{Entry}
+use Rattle.array_fixed_invariant.specs.history_Losses.{is_gone_after}
+use Rattle.array_fixed_invariant.specs.history_Reshaped.{IsConsistent, IsConsistentBy, IsConsistentAt}
+use Rattle.array_fixed_invariant.specs.history_Stands.{held_row, held_sector}
+use Rattle.array_fixed_invariant.specs.history_World.{World, contents_at}
+use Rattle.array_fixed_invariant.specs.crash_views_Regions.{DoWithout, IsReadOf}
+use Rattle.array_fixed_invariant.specs.crash_views_Views.{Ledger}
+use Rattle.array_fixed_invariant.specs.crash_views_Windows.{RowsStand}
+use Rattle.array_fixed_invariant.proofs.crash_views_Alike.{shape-alike}
+use Rattle.array_fixed_invariant.proofs.crash_views_SoundViews.{good-row}
+use Rattle.array_fixed_invariant.proofs.crash_views_Standing.{held-same}
+use Rattle.array_fixed_invariant.specs.crash_safety_laws_Changing.{IsSafeChange}
+use Rattle.array_fixed_invariant.specs.crash_safety_laws_Steady.{AreUnlost, IsNamedNow}
+use Rattle.array_fixed_invariant.proofs.crash_safety_laws_Steady.{held-read}
+use Rattle.array_fixed_invariant.proofs.crash_reshape_laws_EndLaws.{fewer-pass}
+use Rattle.array_fixed_invariant.specs.array_members_Placed.{IsPlaced}
+use Rattle.array_fixed_invariant.proofs.array_members_Fit.{valid}
+use Rattle.array_fixed_invariant.proofs.array_members_LiveLeft.{without-left}
+use Rattle.array_fixed_invariant.proofs.array_members_Still.{count-still, without-still}
+use Rattle.array_fixed_invariant.proofs.history_invariant_Lengths.{now-drawn}
+use Rattle.array_fixed_invariant.specs.history_invariant_laws_Reliable.{AreToldGone}
 use Rattle.array_reshaping_end_laws.proofs.EndedRows.{rows-still}
 
 -- Where the superblocks are held as members without a reshape say, which lack no more than is tolerated, and whose rows stand, the contents are consistent.

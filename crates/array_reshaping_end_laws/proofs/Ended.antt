@@ -10,87 +10,87 @@ use Rattle.std.proofs.lemmas.Bool.Decides.{nat_tests}
 use Rattle.std.proofs.lemmas.List.Folds.{list_any-append}
 use Rattle.std.proofs.lemmas.List.Sums.{fold-append}
 use Rattle.std.proofs.Math.Nat.{mul-le-mul_right}
-use Rattle.array_reshaping_invariant.specs.raid_types_Search.{all_below}
-use Rattle.array_reshaping_invariant.specs.raid_types_Sectors.{Sector, zero_sector}
-use Rattle.array_reshaping_invariant.specs.raid_types_Shapes.{data_disks}
-use Rattle.array_reshaping_invariant.specs.raid_types_the_Who.{Who}
-use Rattle.array_reshaping_invariant.specs.raid_types_the_Shape.{Shape}
-use Rattle.array_reshaping_invariant.specs.bank_the_Operation.{Operation}
-use Rattle.array_reshaping_invariant.specs.bank_Given.{Given}
-use Rattle.array_reshaping_invariant.specs.bank_Tape.{IsIn, disk}
-use Rattle.array_reshaping_invariant.specs.reshape_geometry_Geometry.{zeroed_stripes}
-use Rattle.array_reshaping_invariant.specs.sb_codec_the_Sb.{Sb}
-use Rattle.array_reshaping_invariant.specs.sb_specs_the_Members.{Members}
-use Rattle.array_reshaping_invariant.specs.sb_specs_Reading.{Scope, Reading, is_reshaping, is_backward, is_clean, shape_of, final_shape, target_of, list_length, role_count}
-use Rattle.array_reshaping_invariant.proofs.sb_specs_Searches.{any_below-some}
-use Rattle.array_reshaping_invariant.specs.stripe_row_Rows.{reading_of, present, is_missing}
-use Rattle.array_reshaping_invariant.specs.history_the_Entry.{Entry}
-use Rattle.array_reshaping_invariant.specs.history_the_Event.{Event}
-use Rattle.array_reshaping_invariant.specs.history_the_Event_TheVariants.{Lost, SpareLost, Resized, Step}
-use Rattle.array_reshaping_invariant.specs.history_the_LostCause_TheVariants.{Fault}
-use Rattle.array_reshaping_invariant.specs.history_the_StepKind_TheVariants.{Finished}
-use Rattle.array_reshaping_invariant.specs.history_Epochs.{HasRoomForEvents}
-use Rattle.array_reshaping_invariant.specs.history_Flat.{is_same_call, length_of, resized, values_of, now}
-use Rattle.array_reshaping_invariant.specs.history_Legal.{call_before, disturbs, end_before, is_all_gone, is_free_step, known_left, left_after, level_after, level_at, size_at, target_at, told_left, IsResized, IsResizedAfter, IsStep, IsUnkeptLength}
-use Rattle.array_reshaping_invariant.specs.history_Losses.{is_gone_after, is_unsynced, loses, unsettles}
-use Rattle.array_reshaping_invariant.specs.history_OneShape.{is_unsettled}
-use Rattle.array_reshaping_invariant.specs.history_Plain.{entries_of}
-use Rattle.array_reshaping_invariant.specs.history_Reshaped.{behind, comes_with_finish, comes_with_step, open_plans, ArePlansDone, IsConsistentAt, IsFinishedRight, IsReshapedBy}
-use Rattle.array_reshaping_invariant.specs.history_Sound.{OpensFit}
-use Rattle.array_reshaping_invariant.specs.history_World.{World, reading_at, opening_list}
-use Rattle.array_reshaping_invariant.proofs.history_SoundLaws.{fit-before}
-use Rattle.array_reshaping_invariant.proofs.history_laws_OneShapeGrowing.{entries-both}
-use Rattle.array_reshaping_invariant.specs.crash_views_Views.{Ledger}
-use Rattle.array_reshaping_invariant.specs.crash_views_Windows.{ListStands, RowsStand}
-use Rattle.array_reshaping_invariant.proofs.crash_views_Alike.{final-alike}
-use Rattle.array_reshaping_invariant.proofs.crash_views_Stands.{list-still}
-use Rattle.array_reshaping_invariant.specs.crash_safety_laws_Changing.{IsSafeChange}
-use Rattle.array_reshaping_invariant.specs.crash_safety_laws_Safety.{HasLiveSlot, HasRoomLeft, IsRisen}
-use Rattle.array_reshaping_invariant.specs.crash_safety_laws_Steady.{IsMoreTold, IsSafeNow, IsSafeOver, AreGoneTold, IsUncleanTold}
-use Rattle.array_reshaping_invariant.proofs.crash_safety_laws_Steady.{held-read}
-use Rattle.array_reshaping_invariant.specs.array_members_Lacking.{DoesWithout}
-use Rattle.array_reshaping_invariant.proofs.array_members_LiveLeft.{left-steady, without-left}
-use Rattle.array_reshaping_invariant.proofs.array_members_SoundViews.{throughout-changed}
-use Rattle.array_reshaping_invariant.proofs.array_members_Still.{count-still}
-use Rattle.array_reshaping_invariant.specs.history_append_Losing.{losses_of}
-use Rattle.array_reshaping_invariant.proofs.history_append_CallLaws.{AreLossEvents, losses-are}
-use Rattle.array_reshaping_invariant.proofs.history_append_StepLaws.{faults-are}
-use Rattle.array_reshaping_invariant.specs.history_invariant_Recorded.{IsHistoryKept, IsLegalCall, IsReshapedCall, IsCallGoing, entry_of, gives_some}
-use Rattle.array_reshaping_invariant.specs.history_invariant_Safe.{world_in, IsFilledRight, IsSafeHistory}
-use Rattle.array_reshaping_invariant.specs.history_invariant_Told.{told_now, told_by}
-use Rattle.array_reshaping_invariant.proofs.history_invariant_Entered.{AreAdding, adding-losses, told-adding, length-more, length-adding, values-more, values-adding, gone-was, gone-lost}
-use Rattle.array_reshaping_invariant.proofs.history_invariant_Calls.{LeavesSoundFrom}
-use Rattle.array_reshaping_invariant.proofs.history_invariant_Growing.{reading-grown, opening-grown, fit-grown, gone-grown, unsynced-grown, now-grown, room-before, room-now}
-use Rattle.array_reshaping_invariant.proofs.history_invariant_KeptCalls.{kept-call}
-use Rattle.array_reshaping_invariant.proofs.history_invariant_Ledgers.{any-gone, unclean-now}
-use Rattle.array_reshaping_invariant.proofs.history_invariant_Lengths.{length-now, now-drawn}
-use Rattle.array_reshaping_invariant.proofs.history_invariant_Lists.{newest-in}
-use Rattle.array_reshaping_invariant.proofs.history_invariant_Longer.{regains-none}
-use Rattle.array_reshaping_invariant.proofs.history_invariant_Records.{same-call}
-use Rattle.array_reshaping_invariant.proofs.history_invariant_Reshapes.{call-ends_none, reshaped-losses}
-use Rattle.array_reshaping_invariant.proofs.history_invariant_Seen.{now-more}
-use Rattle.array_reshaping_invariant.proofs.history_invariant_Tests.{or-right}
-use Rattle.array_reshaping_invariant.proofs.history_invariant_Turned.{filled-before}
-use Rattle.array_reshaping_invariant.proofs.history_invariant_Turns.{either-call, resized-call}
-use Rattle.array_reshaping_invariant.specs.reshape_begin_end_Finished.{IsFinishable}
-use Rattle.array_reshaping_invariant.specs.reshape_progress_Course.{AnyShape, StandsInCourse}
-use Rattle.array_reshaping_invariant.specs.reshape_progress_Laws.{closed}
-use Rattle.array_reshaping_invariant.proofs.reshape_progress_Frames.{stands-whole, list-whole, rows-whole}
-use Rattle.array_reshaping_invariant.proofs.reshape_progress_resync_laws_Synced.{none-pending}
-use Rattle.array_reshaping_invariant.proofs.reshape_progress_Courses.{zeroes-are-all}
-use Rattle.array_reshaping_invariant.specs.history_invariant_laws_Reliable.{IsReliable, AreToldGone, IsNonePast}
-use Rattle.array_reshaping_invariant.proofs.history_invariant_laws_LastStep.{last-behind, last-step}
-use Rattle.array_reshaping_invariant.specs.Moving.{HasListInCourse, HasListStill, IsMoving}
-use Rattle.array_reshaping_invariant.proofs.history_invariant_laws_Behind.{IsAmong, inner-of, legal-losses}
-use Rattle.array_reshaping_invariant.proofs.history_invariant_laws_Plans.{behind-all, ArePlannedTo, plans-behind, plans-done}
-use Rattle.array_reshaping_invariant.proofs.array_call_specs_OnlyLaws.{either}
+use Rattle.array_fixed_invariant.specs.raid_types_Search.{all_below}
+use Rattle.array_fixed_invariant.specs.raid_types_Sectors.{Sector, zero_sector}
+use Rattle.array_fixed_invariant.specs.raid_types_Shapes.{data_disks}
+use Rattle.array_fixed_invariant.specs.raid_types_the_Who.{Who}
+use Rattle.array_fixed_invariant.specs.raid_types_the_Shape.{Shape}
+use Rattle.array_fixed_invariant.specs.bank_the_Operation.{Operation}
+use Rattle.array_fixed_invariant.specs.bank_Given.{Given}
+use Rattle.array_fixed_invariant.specs.bank_Tape.{IsIn, disk}
+use Rattle.array_fixed_invariant.specs.reshape_geometry_Geometry.{zeroed_stripes}
+use Rattle.array_fixed_invariant.specs.sb_codec_the_Sb.{Sb}
+use Rattle.array_fixed_invariant.specs.sb_specs_the_Members.{Members}
+use Rattle.array_fixed_invariant.specs.sb_specs_Reading.{Scope, Reading, is_reshaping, is_backward, is_clean, shape_of, final_shape, target_of, list_length, role_count}
+use Rattle.array_fixed_invariant.proofs.sb_specs_Searches.{any_below-some}
+use Rattle.array_fixed_invariant.specs.stripe_row_Rows.{reading_of, present, is_missing}
+use Rattle.array_fixed_invariant.specs.history_the_Entry.{Entry}
+use Rattle.array_fixed_invariant.specs.history_the_Event.{Event}
+use Rattle.array_fixed_invariant.specs.history_the_Event_TheVariants.{Lost, SpareLost, Resized, Step}
+use Rattle.array_fixed_invariant.specs.history_the_LostCause_TheVariants.{Fault}
+use Rattle.array_fixed_invariant.specs.history_the_StepKind_TheVariants.{Finished}
+use Rattle.array_fixed_invariant.specs.history_Epochs.{HasRoomForEvents}
+use Rattle.array_fixed_invariant.specs.history_Flat.{is_same_call, length_of, resized, values_of, now}
+use Rattle.array_fixed_invariant.specs.history_Legal.{call_before, disturbs, end_before, is_all_gone, is_free_step, known_left, left_after, level_after, level_at, size_at, target_at, told_left, IsResized, IsResizedAfter, IsStep, IsUnkeptLength}
+use Rattle.array_fixed_invariant.specs.history_Losses.{is_gone_after, is_unsynced, loses, unsettles}
+use Rattle.array_fixed_invariant.specs.history_OneShape.{is_unsettled}
+use Rattle.array_fixed_invariant.specs.history_Plain.{entries_of}
+use Rattle.array_fixed_invariant.specs.history_Reshaped.{behind, comes_with_finish, comes_with_step, open_plans, ArePlansDone, IsConsistentAt, IsFinishedRight, IsReshapedBy}
+use Rattle.array_fixed_invariant.specs.history_Sound.{OpensFit}
+use Rattle.array_fixed_invariant.specs.history_World.{World, reading_at, opening_list}
+use Rattle.array_fixed_invariant.proofs.history_SoundLaws.{fit-before}
+use Rattle.array_fixed_invariant.proofs.history_laws_OneShapeGrowing.{entries-both}
+use Rattle.array_fixed_invariant.specs.crash_views_Views.{Ledger}
+use Rattle.array_fixed_invariant.specs.crash_views_Windows.{ListStands, RowsStand}
+use Rattle.array_fixed_invariant.proofs.crash_views_Alike.{final-alike}
+use Rattle.array_fixed_invariant.proofs.crash_views_Stands.{list-still}
+use Rattle.array_fixed_invariant.specs.crash_safety_laws_Changing.{IsSafeChange}
+use Rattle.array_fixed_invariant.specs.crash_safety_laws_Safety.{HasLiveSlot, HasRoomLeft, IsRisen}
+use Rattle.array_fixed_invariant.specs.crash_safety_laws_Steady.{IsMoreTold, IsSafeNow, IsSafeOver, AreGoneTold, IsUncleanTold}
+use Rattle.array_fixed_invariant.proofs.crash_safety_laws_Steady.{held-read}
+use Rattle.array_fixed_invariant.specs.array_members_Lacking.{DoesWithout}
+use Rattle.array_fixed_invariant.proofs.array_members_LiveLeft.{left-steady, without-left}
+use Rattle.array_fixed_invariant.proofs.array_members_SoundViews.{throughout-changed}
+use Rattle.array_fixed_invariant.proofs.array_members_Still.{count-still}
+use Rattle.array_fixed_invariant.specs.history_append_Losing.{losses_of}
+use Rattle.array_fixed_invariant.proofs.history_append_CallLaws.{AreLossEvents, losses-are}
+use Rattle.array_fixed_invariant.proofs.history_append_StepLaws.{faults-are}
+use Rattle.array_fixed_invariant.specs.history_invariant_Recorded.{IsHistoryKept, IsLegalCall, IsReshapedCall, IsCallGoing, entry_of, gives_some}
+use Rattle.array_fixed_invariant.specs.history_invariant_Safe.{world_in, IsFilledRight, IsSafeHistory}
+use Rattle.array_fixed_invariant.specs.history_invariant_Told.{told_now, told_by}
+use Rattle.array_fixed_invariant.proofs.history_invariant_Entered.{AreAdding, adding-losses, told-adding, length-more, length-adding, values-more, values-adding, gone-was, gone-lost}
+use Rattle.array_fixed_invariant.proofs.history_invariant_Calls.{LeavesSoundFrom}
+use Rattle.array_fixed_invariant.proofs.history_invariant_Growing.{reading-grown, opening-grown, fit-grown, gone-grown, unsynced-grown, now-grown, room-before, room-now}
+use Rattle.array_fixed_invariant.proofs.history_invariant_KeptCalls.{kept-call}
+use Rattle.array_fixed_invariant.proofs.history_invariant_Ledgers.{any-gone, unclean-now}
+use Rattle.array_fixed_invariant.proofs.history_invariant_Lengths.{length-now, now-drawn}
+use Rattle.array_fixed_invariant.proofs.history_invariant_Lists.{newest-in}
+use Rattle.array_fixed_invariant.proofs.history_invariant_Longer.{regains-none}
+use Rattle.array_fixed_invariant.proofs.history_invariant_Records.{same-call}
+use Rattle.array_fixed_invariant.proofs.history_invariant_Reshapes.{call-ends_none, reshaped-losses}
+use Rattle.array_fixed_invariant.proofs.history_invariant_Seen.{now-more}
+use Rattle.array_fixed_invariant.proofs.history_invariant_Tests.{or-right}
+use Rattle.array_fixed_invariant.proofs.history_invariant_Turned.{filled-before}
+use Rattle.array_fixed_invariant.proofs.history_invariant_Turns.{either-call, resized-call}
+use Rattle.array_fixed_invariant.specs.reshape_begin_end_Finished.{IsFinishable}
+use Rattle.array_fixed_invariant.specs.reshape_progress_Course.{AnyShape, StandsInCourse}
+use Rattle.array_fixed_invariant.specs.reshape_progress_Laws.{closed}
+use Rattle.array_fixed_invariant.proofs.reshape_progress_Frames.{stands-whole, list-whole, rows-whole}
+use Rattle.array_fixed_invariant.proofs.reshape_progress_resync_laws_Synced.{none-pending}
+use Rattle.array_fixed_invariant.proofs.reshape_progress_Courses.{zeroes-are-all}
+use Rattle.array_fixed_invariant.specs.history_invariant_laws_Reliable.{IsReliable, AreToldGone, IsNonePast}
+use Rattle.array_fixed_invariant.proofs.history_invariant_laws_LastStep.{last-behind, last-step}
+use Rattle.array_fixed_invariant.specs.array_reshaping_invariant_Moving.{HasListInCourse, HasListStill, IsMoving}
+use Rattle.array_fixed_invariant.proofs.history_invariant_laws_Behind.{IsAmong, inner-of, legal-losses}
+use Rattle.array_fixed_invariant.proofs.history_invariant_laws_Plans.{behind-all, ArePlannedTo, plans-behind, plans-done}
+use Rattle.array_fixed_invariant.proofs.array_call_specs_OnlyLaws.{either}
 use Rattle.array_reshaping_end_laws.proofs.Consistent.{consistent-at}
 use Rattle.array_reshaping_end_laws.proofs.EndedRows.{HaveEnded, ended-short, listed-still}
 use Rattle.array_reshaping_end_laws.proofs.Ending.{length_by, grown_to, ending_events, only-adds, only-gives, only-lost, ending-gives, ending-settles, ending-level, ending-values, ending-length, ending-lost, ending-late, ending-last, ending-comes, ending-ends, comes-more, before-step, told-longer}
-use Rattle.array_reshaping_invariant.proofs.Quiet.{safe-now}
-use Rattle.array_reshaping_invariant.proofs.NoneLeft.{all_below-each, none-held}
-use Rattle.array_reshaping_invariant.proofs.ReadShapes.{HasShapesOf, IsEitherRead}
-use Rattle.array_reshaping_invariant.proofs.Steps.{told-behind}
+use Rattle.array_fixed_invariant.proofs.array_reshaping_invariant_Quiet.{safe-now}
+use Rattle.array_fixed_invariant.proofs.array_reshaping_invariant_NoneLeft.{all_below-each, none-held}
+use Rattle.array_fixed_invariant.proofs.array_reshaping_invariant_ReadShapes.{HasShapesOf, IsEitherRead}
+use Rattle.array_fixed_invariant.proofs.array_reshaping_invariant_Steps.{told-behind}
 
 -- What the end of a reshape leaves: the list stands by the new shape; its update is safe from one ledger to another; what is missing then was missing, or is told
 -- lost; and what is read at its end says the former shapes or the new one.

@@ -1,52 +1,52 @@
 -- What `finish` leaves where it isn't refused is what is asked of a call by which a reshape ends.
 use Rattle.std.proofs.Common.{◌≡◌, ◌⊎◌, inl, inr, ℕ, ◌<◌, ◌≤◌, ◌&&◌, ◌||◌, nat_lt, max, Bool, true, false, not, Some, is_some, List, refl, sym, ◌∙◌, ap, arith}
 use Rattle.std.proofs.lemmas.Bool.Decides.{nat_tests}
-use Rattle.array_reshaping_invariant.specs.raid_types_Shapes.{has_slot}
-use Rattle.array_reshaping_invariant.specs.raid_types_the_Role.{Role}
-use Rattle.array_reshaping_invariant.specs.raid_types_the_Role_TheVariants.{Whole, Recovering, Missing}
-use Rattle.array_reshaping_invariant.specs.raid_types_Sectors.{Sector}
-use Rattle.array_reshaping_invariant.specs.raid_types_the_Shape.{Shape}
-use Rattle.array_reshaping_invariant.specs.bank_the_Operation.{Operation}
-use Rattle.array_reshaping_invariant.specs.bank_Given.{Given}
-use Rattle.array_reshaping_invariant.specs.bank_Tape.{disk}
-use Rattle.array_reshaping_invariant.specs.reshape_geometry_Geometry.{zeroed_stripes}
-use Rattle.array_reshaping_invariant.specs.sb_codec_the_Sb.{Sb}
-use Rattle.array_reshaping_invariant.specs.sb_specs_the_Members.{Members}
-use Rattle.array_reshaping_invariant.specs.sb_specs_Held.{AreDrawn}
-use Rattle.array_reshaping_invariant.specs.sb_specs_Reading.{Scope, is_reshaping, is_backward, is_whole, shape_of, final_shape, role_count, role_state, holder, data_offset_of}
-use Rattle.array_reshaping_invariant.specs.sb_specs_Updating.{planned_newest}
-use Rattle.array_reshaping_invariant.proofs.sb_specs_ValidFields.{few-roles}
-use Rattle.array_reshaping_invariant.proofs.sb_read_laws_SaidSlots.{below-length}
-use Rattle.array_reshaping_invariant.specs.stripe_row_Rows.{reading_of, present, is_missing}
-use Rattle.array_reshaping_invariant.specs.history_Sound.{OpensFit}
-use Rattle.array_reshaping_invariant.specs.history_World.{World}
-use Rattle.array_reshaping_invariant.specs.crash_views_Regions.{ArePlaced}
-use Rattle.array_reshaping_invariant.specs.crash_views_Views.{Ledger}
-use Rattle.array_reshaping_invariant.proofs.crash_views_Alike.{shape-alike, final-alike}
-use Rattle.array_reshaping_invariant.specs.crash_safety_laws_Changing.{IsSafeChange}
-use Rattle.array_reshaping_invariant.specs.crash_safety_laws_Marking.{AreOthersPresent}
-use Rattle.array_reshaping_invariant.specs.crash_safety_laws_Safety.{HasLiveSlot, HasRoomLeft, IsRisen}
-use Rattle.array_reshaping_invariant.specs.crash_safety_laws_Steady.{AreUnlost, IsSteady, IsSafeOver, AreGoneTold, IsUncleanTold}
-use Rattle.array_reshaping_invariant.specs.crash_safety_laws_Updates.{IsAtEnd}
-use Rattle.array_reshaping_invariant.proofs.crash_safety_laws_ChangeSafe.{told-changed}
-use Rattle.array_reshaping_invariant.proofs.crash_safety_laws_ChangeViews.{later-says}
-use Rattle.array_reshaping_invariant.proofs.crash_safety_laws_FitKinds.{dropping-is-fit}
-use Rattle.array_reshaping_invariant.proofs.crash_safety_laws_Risen.{room-first, room-then}
-use Rattle.array_reshaping_invariant.specs.crash_reshape_laws_Plans.{HasNoneRecovering}
-use Rattle.array_reshaping_invariant.specs.reshape_sb_updates_Ending.{ending}
-use Rattle.array_reshaping_invariant.proofs.reshape_sb_updates_EndedPlan.{dropping, planned-fits-is}
-use Rattle.array_reshaping_invariant.specs.array_members_Placed.{is_unassigned, IsPlaced}
-use Rattle.array_reshaping_invariant.proofs.array_members_HeldRows.{vacant-missing, without-before}
-use Rattle.array_reshaping_invariant.proofs.array_members_LiveLeft.{left-steady, without-left}
-use Rattle.array_reshaping_invariant.proofs.array_members_Still.{count-still}
-use Rattle.array_reshaping_invariant.specs.reshape_begin_end_Finished.{IsOver, IsEndedBehind, IsFinishable}
-use Rattle.array_reshaping_invariant.proofs.reshape_begin_end_FinishLaws.{active-then, small-then, whole-then}
-use Rattle.array_reshaping_invariant.specs.history_invariant_Safe.{world_in}
-use Rattle.array_reshaping_invariant.proofs.history_invariant_Lengths.{now-drawn}
-use Rattle.array_reshaping_invariant.proofs.history_invariant_laws_Behind.{IsAmong}
+use Rattle.array_fixed_invariant.specs.raid_types_Shapes.{has_slot}
+use Rattle.array_fixed_invariant.specs.raid_types_the_Role.{Role}
+use Rattle.array_fixed_invariant.specs.raid_types_the_Role_TheVariants.{Whole, Recovering, Missing}
+use Rattle.array_fixed_invariant.specs.raid_types_Sectors.{Sector}
+use Rattle.array_fixed_invariant.specs.raid_types_the_Shape.{Shape}
+use Rattle.array_fixed_invariant.specs.bank_the_Operation.{Operation}
+use Rattle.array_fixed_invariant.specs.bank_Given.{Given}
+use Rattle.array_fixed_invariant.specs.bank_Tape.{disk}
+use Rattle.array_fixed_invariant.specs.reshape_geometry_Geometry.{zeroed_stripes}
+use Rattle.array_fixed_invariant.specs.sb_codec_the_Sb.{Sb}
+use Rattle.array_fixed_invariant.specs.sb_specs_the_Members.{Members}
+use Rattle.array_fixed_invariant.specs.sb_specs_Held.{AreDrawn}
+use Rattle.array_fixed_invariant.specs.sb_specs_Reading.{Scope, is_reshaping, is_backward, is_whole, shape_of, final_shape, role_count, role_state, holder, data_offset_of}
+use Rattle.array_fixed_invariant.specs.sb_specs_Updating.{planned_newest}
+use Rattle.array_fixed_invariant.proofs.sb_specs_ValidFields.{few-roles}
+use Rattle.array_fixed_invariant.proofs.sb_read_laws_SaidSlots.{below-length}
+use Rattle.array_fixed_invariant.specs.stripe_row_Rows.{reading_of, present, is_missing}
+use Rattle.array_fixed_invariant.specs.history_Sound.{OpensFit}
+use Rattle.array_fixed_invariant.specs.history_World.{World}
+use Rattle.array_fixed_invariant.specs.crash_views_Regions.{ArePlaced}
+use Rattle.array_fixed_invariant.specs.crash_views_Views.{Ledger}
+use Rattle.array_fixed_invariant.proofs.crash_views_Alike.{shape-alike, final-alike}
+use Rattle.array_fixed_invariant.specs.crash_safety_laws_Changing.{IsSafeChange}
+use Rattle.array_fixed_invariant.specs.crash_safety_laws_Marking.{AreOthersPresent}
+use Rattle.array_fixed_invariant.specs.crash_safety_laws_Safety.{HasLiveSlot, HasRoomLeft, IsRisen}
+use Rattle.array_fixed_invariant.specs.crash_safety_laws_Steady.{AreUnlost, IsSteady, IsSafeOver, AreGoneTold, IsUncleanTold}
+use Rattle.array_fixed_invariant.specs.crash_safety_laws_Updates.{IsAtEnd}
+use Rattle.array_fixed_invariant.proofs.crash_safety_laws_ChangeSafe.{told-changed}
+use Rattle.array_fixed_invariant.proofs.crash_safety_laws_ChangeViews.{later-says}
+use Rattle.array_fixed_invariant.proofs.crash_safety_laws_FitKinds.{dropping-is-fit}
+use Rattle.array_fixed_invariant.proofs.crash_safety_laws_Risen.{room-first, room-then}
+use Rattle.array_fixed_invariant.specs.crash_reshape_laws_Plans.{HasNoneRecovering}
+use Rattle.array_fixed_invariant.specs.reshape_sb_updates_Ending.{ending}
+use Rattle.array_fixed_invariant.proofs.reshape_sb_updates_EndedPlan.{dropping, planned-fits-is}
+use Rattle.array_fixed_invariant.specs.array_members_Placed.{is_unassigned, IsPlaced}
+use Rattle.array_fixed_invariant.proofs.array_members_HeldRows.{vacant-missing, without-before}
+use Rattle.array_fixed_invariant.proofs.array_members_LiveLeft.{left-steady, without-left}
+use Rattle.array_fixed_invariant.proofs.array_members_Still.{count-still}
+use Rattle.array_fixed_invariant.specs.reshape_begin_end_Finished.{IsOver, IsEndedBehind, IsFinishable}
+use Rattle.array_fixed_invariant.proofs.reshape_begin_end_FinishLaws.{active-then, small-then, whole-then}
+use Rattle.array_fixed_invariant.specs.history_invariant_Safe.{world_in}
+use Rattle.array_fixed_invariant.proofs.history_invariant_Lengths.{now-drawn}
+use Rattle.array_fixed_invariant.proofs.history_invariant_laws_Behind.{IsAmong}
 use Rattle.array_reshaping_end_laws.proofs.Ended.{IsEndingCall}
 use Rattle.array_reshaping_end_laws.proofs.EndedRows.{HaveEnded, ended-stands}
-use Rattle.array_reshaping_invariant.proofs.ReadShapes.{HasShapesOf, IsEitherRead, either-read_since}
+use Rattle.array_fixed_invariant.proofs.array_reshaping_invariant_ReadShapes.{HasShapesOf, IsEitherRead, either-read_since}
 
 -- What is asked before it, and what it leaves where it isn't refused; what is missing then was missing, or its slot was lost in the flush or in the update.
 pub record IsEndedBy (tells : Type 0) (given : Given) (tape tape' : List Operation) (old new : Members) (roles late : ℕ) : Type 0 where

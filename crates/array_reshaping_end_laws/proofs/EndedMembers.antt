@@ -1,34 +1,34 @@
 -- An array whose reshape ends keeps its record without it, from what `finish` leaves where it isn't refused.
 use Rattle.std.proofs.Common.{◌≡◌, inl, inr, ℕ, ◌==◌, ◌≤◌, Bool, true, false, None, List, ◌++◌, length, refl, sym, ◌∙◌, ap, subst, ◌||◌}
 use Rattle.std.specs.Prelude.{IsFalse, ⊤}
-use Rattle.array_reshaping_invariant.specs.raid_types_Shapes.{tolerance_of}
-use Rattle.array_reshaping_invariant.specs.raid_types_the_Who.{Who}
-use Rattle.array_reshaping_invariant.specs.raid_types_the_Shape.{Shape}
-use Rattle.array_reshaping_invariant.specs.bank_the_Operation.{Operation}
-use Rattle.array_reshaping_invariant.specs.bank_Given.{Given}
-use Rattle.array_reshaping_invariant.specs.reshape_geometry_Geometry.{zeroed_stripes}
-use Rattle.array_reshaping_invariant.specs.sb_specs_the_Members.{Members}
-use Rattle.array_reshaping_invariant.specs.sb_specs_Reading.{Scope, is_backward, shape_of, final_shape, list_length, role_count}
-use Rattle.array_reshaping_invariant.proofs.sb_specs_ValidFields.{few-roles}
-use Rattle.array_reshaping_invariant.specs.stripe_row_Rows.{present}
-use Rattle.array_reshaping_invariant.specs.history_the_Entry.{Entry}
-use Rattle.array_reshaping_invariant.specs.history_Epochs.{HasRoomForEvents}
-use Rattle.array_reshaping_invariant.specs.history_Flat.{now}
-use Rattle.array_reshaping_invariant.specs.history_Legal.{level_at}
-use Rattle.array_reshaping_invariant.specs.history_Losses.{is_unsynced}
-use Rattle.array_reshaping_invariant.specs.history_OneShape.{is_unsettled}
-use Rattle.array_reshaping_invariant.specs.history_Plain.{entries_of}
-use Rattle.array_reshaping_invariant.specs.history_Sound.{OpensFit}
-use Rattle.array_reshaping_invariant.specs.history_World.{opening_list}
-use Rattle.array_reshaping_invariant.specs.crash_safety_laws_Safety.{HasLiveSlot}
-use Rattle.array_reshaping_invariant.specs.array_members_Moving.{Grows}
-use Rattle.array_reshaping_invariant.specs.history_append_Losing.{losses_of}
-use Rattle.array_reshaping_invariant.proofs.sb_safe_updates_MarkEnds.{some-or-none}
-use Rattle.array_reshaping_invariant.specs.history_invariant_Recorded.{IsHistoryKept, IsCallGoing}
-use Rattle.array_reshaping_invariant.specs.history_invariant_Safe.{world_in, IsFilledRight, IsSafeHistory}
-use Rattle.array_reshaping_invariant.specs.reshape_progress_Laws.{closed}
-use Rattle.array_reshaping_invariant.specs.history_invariant_laws_Reliable.{IsReliable, AreToldGone, IsNonePast}
-use Rattle.array_reshaping_invariant.specs.Moving.{HasListStill, IsStillKept, IsMoving}
+use Rattle.array_fixed_invariant.specs.raid_types_Shapes.{tolerance_of}
+use Rattle.array_fixed_invariant.specs.raid_types_the_Who.{Who}
+use Rattle.array_fixed_invariant.specs.raid_types_the_Shape.{Shape}
+use Rattle.array_fixed_invariant.specs.bank_the_Operation.{Operation}
+use Rattle.array_fixed_invariant.specs.bank_Given.{Given}
+use Rattle.array_fixed_invariant.specs.reshape_geometry_Geometry.{zeroed_stripes}
+use Rattle.array_fixed_invariant.specs.sb_specs_the_Members.{Members}
+use Rattle.array_fixed_invariant.specs.sb_specs_Reading.{Scope, is_backward, shape_of, final_shape, list_length, role_count}
+use Rattle.array_fixed_invariant.proofs.sb_specs_ValidFields.{few-roles}
+use Rattle.array_fixed_invariant.specs.stripe_row_Rows.{present}
+use Rattle.array_fixed_invariant.specs.history_the_Entry.{Entry}
+use Rattle.array_fixed_invariant.specs.history_Epochs.{HasRoomForEvents}
+use Rattle.array_fixed_invariant.specs.history_Flat.{now}
+use Rattle.array_fixed_invariant.specs.history_Legal.{level_at}
+use Rattle.array_fixed_invariant.specs.history_Losses.{is_unsynced}
+use Rattle.array_fixed_invariant.specs.history_OneShape.{is_unsettled}
+use Rattle.array_fixed_invariant.specs.history_Plain.{entries_of}
+use Rattle.array_fixed_invariant.specs.history_Sound.{OpensFit}
+use Rattle.array_fixed_invariant.specs.history_World.{opening_list}
+use Rattle.array_fixed_invariant.specs.crash_safety_laws_Safety.{HasLiveSlot}
+use Rattle.array_fixed_invariant.specs.array_members_Moving.{Grows}
+use Rattle.array_fixed_invariant.specs.history_append_Losing.{losses_of}
+use Rattle.array_fixed_invariant.proofs.sb_safe_updates_MarkEnds.{some-or-none}
+use Rattle.array_fixed_invariant.specs.history_invariant_Recorded.{IsHistoryKept, IsCallGoing}
+use Rattle.array_fixed_invariant.specs.history_invariant_Safe.{world_in, IsFilledRight, IsSafeHistory}
+use Rattle.array_fixed_invariant.specs.reshape_progress_Laws.{closed}
+use Rattle.array_fixed_invariant.specs.history_invariant_laws_Reliable.{IsReliable, AreToldGone, IsNonePast}
+use Rattle.array_fixed_invariant.specs.array_reshaping_invariant_Moving.{HasListStill, IsStillKept, IsMoving}
 use Rattle.array_reshaping_end_laws.proofs.Ended.{IsPlannedTo, IsStepped, IsEndingCall, ended-before, ended-gone, ended-unclean, ended-level, ended-listed, ended-past, ended-safe, ended-recorded}
 use Rattle.array_reshaping_end_laws.proofs.EndedCall.{IsEndedBy, ended-call}
 use Rattle.array_reshaping_end_laws.proofs.Ending.{grown_to, ending_events}

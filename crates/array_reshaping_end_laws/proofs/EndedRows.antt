@@ -1,48 +1,48 @@
 -- The list behind the end of a reshape: it stands on the members by the new shape alone, with its rows, and zeros behind its end.
 use Rattle.std.proofs.Common.{◌≡◌, ℕ, ◌*◌, ◌<◌, ◌≤◌, nat_lt, Bool, true, false, not, cond, min, Some, None, List, refl, sym, ◌∙◌, ap, subst, arith}
 use Rattle.std.proofs.lemmas.Bool.Decides.{nat_tests}
-use Rattle.array_reshaping_invariant.specs.raid_types_Sectors.{Sector, zero_sector}
-use Rattle.array_reshaping_invariant.specs.raid_types_Shapes.{data_disks}
-use Rattle.array_reshaping_invariant.specs.raid_types_the_Shape.{Shape}
-use Rattle.array_reshaping_invariant.specs.raid_types_the_Role.{Role}
-use Rattle.array_reshaping_invariant.specs.raid_types_the_Role_TheVariants.{Whole, Recovering, Missing}
-use Rattle.array_reshaping_invariant.specs.bank_Given.{Given}
-use Rattle.array_reshaping_invariant.specs.bank_Tape.{Contents}
-use Rattle.array_reshaping_invariant.specs.raid_layout_Layout.{place}
-use Rattle.array_reshaping_invariant.proofs.raid_layout_Places.{place-sector_below}
-use Rattle.array_reshaping_invariant.specs.reshape_geometry_Geometry.{zeroed_stripes}
-use Rattle.array_reshaping_invariant.specs.sb_specs_the_Members.{Members}
-use Rattle.array_reshaping_invariant.specs.sb_specs_Reading.{Scope, is_reshaping, is_backward, is_whole, shape_of, final_shape, list_length, role_state, rows_held, holder, data_offset_of}
-use Rattle.array_reshaping_invariant.specs.stripe_row_Rows.{reading_of, is_missing, held_slot}
-use Rattle.array_reshaping_invariant.proofs.stripe_row_Losses.{holder-of}
-use Rattle.array_reshaping_invariant.specs.stripe_list_Full.{RowStands}
-use Rattle.array_reshaping_invariant.specs.history_Stands.{shape_for}
-use Rattle.array_reshaping_invariant.specs.stripe_region_laws_Regions.{IsDirected}
-use Rattle.array_reshaping_invariant.specs.crash_views_Regions.{ArePlaced, DoWithout}
-use Rattle.array_reshaping_invariant.specs.crash_views_Windows.{ListStands, RowsStand}
-use Rattle.array_reshaping_invariant.proofs.crash_views_Stands.{for-still, list-still, still-stands}
-use Rattle.array_reshaping_invariant.proofs.crash_views_UnderWay.{under-way}
-use Rattle.array_reshaping_invariant.specs.crash_safety_laws_Marking.{AreOthersPresent}
-use Rattle.array_reshaping_invariant.specs.crash_safety_laws_Steady.{AreUnlost}
-use Rattle.array_reshaping_invariant.specs.crash_safety_laws_Updates.{IsAtEnd}
-use Rattle.array_reshaping_invariant.proofs.crash_safety_laws_LessViews.{ends-place}
-use Rattle.array_reshaping_invariant.specs.crash_reshape_laws_Ends.{AreRolesKept, ArePlacesAlike, IsEnded}
-use Rattle.array_reshaping_invariant.specs.crash_reshape_laws_Plans.{HasNoneRecovering}
-use Rattle.array_reshaping_invariant.proofs.crash_reshape_laws_EndLaws.{same-placed, places-alike-stand}
-use Rattle.array_reshaping_invariant.proofs.crash_reshape_laws_GrownLaws.{row-list}
-use Rattle.array_reshaping_invariant.proofs.crash_reshape_laws_GrownStanding.{grown-stands}
-use Rattle.array_reshaping_invariant.specs.array_members_Moving.{IsMoved}
-use Rattle.array_reshaping_invariant.specs.array_members_Placed.{IsPlaced, HaveSameReshape}
-use Rattle.array_reshaping_invariant.proofs.array_members_Fit.{fit-alike, valid, multiple}
-use Rattle.array_reshaping_invariant.proofs.array_members_HeldRows.{rows-same}
-use Rattle.array_reshaping_invariant.proofs.array_members_Still.{length-still, placed-two, backup-still}
-use Rattle.array_reshaping_invariant.specs.reshape_begin_end_Finished.{IsZeroBehind}
-use Rattle.array_reshaping_invariant.specs.reshape_progress_Course.{AnyShape, StandsInCourse}
-use Rattle.array_reshaping_invariant.specs.reshape_progress_Laws.{closed}
-use Rattle.array_reshaping_invariant.proofs.reshape_progress_Frames.{list-whole, rows-whole}
-use Rattle.array_reshaping_invariant.proofs.reshape_progress_Courses.{courses-move, zeroes-are-all}
-use Rattle.array_reshaping_invariant.specs.Moving.{HasListStill}
-use Rattle.array_reshaping_invariant.proofs.MembersMove.{backed-moved}
+use Rattle.array_fixed_invariant.specs.raid_types_Sectors.{Sector, zero_sector}
+use Rattle.array_fixed_invariant.specs.raid_types_Shapes.{data_disks}
+use Rattle.array_fixed_invariant.specs.raid_types_the_Shape.{Shape}
+use Rattle.array_fixed_invariant.specs.raid_types_the_Role.{Role}
+use Rattle.array_fixed_invariant.specs.raid_types_the_Role_TheVariants.{Whole, Recovering, Missing}
+use Rattle.array_fixed_invariant.specs.bank_Given.{Given}
+use Rattle.array_fixed_invariant.specs.bank_Tape.{Contents}
+use Rattle.array_fixed_invariant.specs.raid_layout_Layout.{place}
+use Rattle.array_fixed_invariant.proofs.raid_layout_Places.{place-sector_below}
+use Rattle.array_fixed_invariant.specs.reshape_geometry_Geometry.{zeroed_stripes}
+use Rattle.array_fixed_invariant.specs.sb_specs_the_Members.{Members}
+use Rattle.array_fixed_invariant.specs.sb_specs_Reading.{Scope, is_reshaping, is_backward, is_whole, shape_of, final_shape, list_length, role_state, rows_held, holder, data_offset_of}
+use Rattle.array_fixed_invariant.specs.stripe_row_Rows.{reading_of, is_missing, held_slot}
+use Rattle.array_fixed_invariant.proofs.stripe_row_Losses.{holder-of}
+use Rattle.array_fixed_invariant.specs.stripe_list_Full.{RowStands}
+use Rattle.array_fixed_invariant.specs.history_Stands.{shape_for}
+use Rattle.array_fixed_invariant.specs.stripe_region_laws_Regions.{IsDirected}
+use Rattle.array_fixed_invariant.specs.crash_views_Regions.{ArePlaced, DoWithout}
+use Rattle.array_fixed_invariant.specs.crash_views_Windows.{ListStands, RowsStand}
+use Rattle.array_fixed_invariant.proofs.crash_views_Stands.{for-still, list-still, still-stands}
+use Rattle.array_fixed_invariant.proofs.crash_views_UnderWay.{under-way}
+use Rattle.array_fixed_invariant.specs.crash_safety_laws_Marking.{AreOthersPresent}
+use Rattle.array_fixed_invariant.specs.crash_safety_laws_Steady.{AreUnlost}
+use Rattle.array_fixed_invariant.specs.crash_safety_laws_Updates.{IsAtEnd}
+use Rattle.array_fixed_invariant.proofs.crash_safety_laws_LessViews.{ends-place}
+use Rattle.array_fixed_invariant.specs.crash_reshape_laws_Ends.{AreRolesKept, ArePlacesAlike, IsEnded}
+use Rattle.array_fixed_invariant.specs.crash_reshape_laws_Plans.{HasNoneRecovering}
+use Rattle.array_fixed_invariant.proofs.crash_reshape_laws_EndLaws.{same-placed, places-alike-stand}
+use Rattle.array_fixed_invariant.proofs.crash_reshape_laws_GrownLaws.{row-list}
+use Rattle.array_fixed_invariant.proofs.crash_reshape_laws_GrownStanding.{grown-stands}
+use Rattle.array_fixed_invariant.specs.array_members_Moving.{IsMoved}
+use Rattle.array_fixed_invariant.specs.array_members_Placed.{IsPlaced, HaveSameReshape}
+use Rattle.array_fixed_invariant.proofs.array_members_Fit.{fit-alike, valid, multiple}
+use Rattle.array_fixed_invariant.proofs.array_members_HeldRows.{rows-same}
+use Rattle.array_fixed_invariant.proofs.array_members_Still.{length-still, placed-two, backup-still}
+use Rattle.array_fixed_invariant.specs.reshape_begin_end_Finished.{IsZeroBehind}
+use Rattle.array_fixed_invariant.specs.reshape_progress_Course.{AnyShape, StandsInCourse}
+use Rattle.array_fixed_invariant.specs.reshape_progress_Laws.{closed}
+use Rattle.array_fixed_invariant.proofs.reshape_progress_Frames.{list-whole, rows-whole}
+use Rattle.array_fixed_invariant.proofs.reshape_progress_Courses.{courses-move, zeroes-are-all}
+use Rattle.array_fixed_invariant.specs.array_reshaping_invariant_Moving.{HasListStill}
+use Rattle.array_fixed_invariant.proofs.array_reshaping_invariant_MembersMove.{backed-moved}
 
 -- What the members are behind the end of a reshape that has gone through the list: the new shape alone is in force, and of its roles a slot holds what it held.
 pub record HaveEnded (given : Given) (old new : Members) : Type 0 where

@@ -3,32 +3,32 @@
 use Rattle.std.proofs.Common.{◌≡◌, ℕ, suc, ◌+◌, ◌<◌, ◌&&◌, ◌||◌, nat_lt, Bool, true, false, cond, List, [], ◌∷◌, ◌++◌, length, take, fold, refl, sym, ◌∙◌, ap, ap₂, subst, arith, append_assoc, append-nil}
 use Rattle.std.specs.List.{list_any, list_all}
 use Rattle.std.proofs.lemmas.List.Folds.{list_any-append}
-use Rattle.array_reshaping_invariant.specs.raid_types_Sectors.{Sector}
-use Rattle.array_reshaping_invariant.specs.raid_types_the_Who.{Who}
-use Rattle.array_reshaping_invariant.specs.bank_Tape.{IsIn}
-use Rattle.array_reshaping_invariant.specs.history_the_Entry.{Entry}
-use Rattle.array_reshaping_invariant.specs.history_the_Event.{Event}
-use Rattle.array_reshaping_invariant.specs.history_the_Event_TheVariants.{Lost, SpareLost, Resized, Step}
-use Rattle.array_reshaping_invariant.specs.history_the_LostCause_TheVariants.{Fault}
-use Rattle.array_reshaping_invariant.specs.history_the_StepKind_TheVariants.{Finished}
-use Rattle.array_reshaping_invariant.specs.history_Flat.{length_of, values_after, values_of, resized}
-use Rattle.array_reshaping_invariant.specs.history_Legal.{is_loss, before_last_step, level_after}
-use Rattle.array_reshaping_invariant.specs.history_Losses.{loses, is_gone_after, is_unsynced, settles, unsettles}
-use Rattle.array_reshaping_invariant.specs.history_OneShape.{is_lost, is_unsettled}
-use Rattle.array_reshaping_invariant.specs.history_Plain.{entries_of, loses_role}
-use Rattle.array_reshaping_invariant.specs.history_Reshaped.{comes_with_finish, comes_with_step, is_rebuilt}
-use Rattle.array_reshaping_invariant.specs.history_Transfers.{last_end_from}
-use Rattle.array_reshaping_invariant.specs.history_World.{World, opening_list}
-use Rattle.array_reshaping_invariant.proofs.history_laws_OneShapeGrowing.{entries-both, call-ends}
-use Rattle.array_reshaping_invariant.specs.history_append_Losing.{losses_of}
-use Rattle.array_reshaping_invariant.proofs.history_append_CallLaws.{AreLossEvents, losses-are, length-losses}
-use Rattle.array_reshaping_invariant.specs.history_invariant_Recorded.{ends_reshape, gives_some}
-use Rattle.array_reshaping_invariant.specs.history_invariant_Told.{told_by}
-use Rattle.array_reshaping_invariant.proofs.history_invariant_Entered.{AreAdding, length-adding, values-adding, settle-none}
-use Rattle.array_reshaping_invariant.specs.crash_safety_laws_Steady.{IsMoreTold}
-use Rattle.array_reshaping_invariant.proofs.history_invariant_Tests.{or-right}
-use Rattle.array_reshaping_invariant.proofs.history_LegalLaws.{both}
-use Rattle.array_reshaping_invariant.proofs.history_invariant_laws_Behind.{IsAmong, early-losses, and-true}
+use Rattle.array_fixed_invariant.specs.raid_types_Sectors.{Sector}
+use Rattle.array_fixed_invariant.specs.raid_types_the_Who.{Who}
+use Rattle.array_fixed_invariant.specs.bank_Tape.{IsIn}
+use Rattle.array_fixed_invariant.specs.history_the_Entry.{Entry}
+use Rattle.array_fixed_invariant.specs.history_the_Event.{Event}
+use Rattle.array_fixed_invariant.specs.history_the_Event_TheVariants.{Lost, SpareLost, Resized, Step}
+use Rattle.array_fixed_invariant.specs.history_the_LostCause_TheVariants.{Fault}
+use Rattle.array_fixed_invariant.specs.history_the_StepKind_TheVariants.{Finished}
+use Rattle.array_fixed_invariant.specs.history_Flat.{length_of, values_after, values_of, resized}
+use Rattle.array_fixed_invariant.specs.history_Legal.{is_loss, before_last_step, level_after}
+use Rattle.array_fixed_invariant.specs.history_Losses.{loses, is_gone_after, is_unsynced, settles, unsettles}
+use Rattle.array_fixed_invariant.specs.history_OneShape.{is_lost, is_unsettled}
+use Rattle.array_fixed_invariant.specs.history_Plain.{entries_of, loses_role}
+use Rattle.array_fixed_invariant.specs.history_Reshaped.{comes_with_finish, comes_with_step, is_rebuilt}
+use Rattle.array_fixed_invariant.specs.history_Transfers.{last_end_from}
+use Rattle.array_fixed_invariant.specs.history_World.{World, opening_list}
+use Rattle.array_fixed_invariant.proofs.history_laws_OneShapeGrowing.{entries-both, call-ends}
+use Rattle.array_fixed_invariant.specs.history_append_Losing.{losses_of}
+use Rattle.array_fixed_invariant.proofs.history_append_CallLaws.{AreLossEvents, losses-are, length-losses}
+use Rattle.array_fixed_invariant.specs.history_invariant_Recorded.{ends_reshape, gives_some}
+use Rattle.array_fixed_invariant.specs.history_invariant_Told.{told_by}
+use Rattle.array_fixed_invariant.proofs.history_invariant_Entered.{AreAdding, length-adding, values-adding, settle-none}
+use Rattle.array_fixed_invariant.specs.crash_safety_laws_Steady.{IsMoreTold}
+use Rattle.array_fixed_invariant.proofs.history_invariant_Tests.{or-right}
+use Rattle.array_fixed_invariant.proofs.history_LegalLaws.{both}
+use Rattle.array_fixed_invariant.proofs.history_invariant_laws_Behind.{IsAmong, early-losses, and-true}
 
 -- ---- the call
 

@@ -6,7 +6,39 @@ pub mod EndedCall
 pub mod EndedMembers
 pub mod Shortening
 pub mod Shortened
-pub use Rattle.array_reshaping_invariant.proofs.Beginning as array_reshaping_invariant_Beginning
-pub use Rattle.array_reshaping_invariant.proofs.history_invariant_laws_Behind
-pub use Rattle.array_reshaping_invariant.proofs.history_invariant_laws_Plans
-pub use Rattle.array_reshaping_invariant.proofs.sb_safe_updates_Under
+pub use Rattle.array_fixed_invariant.proofs.array_reshaping_invariant_Beginning
+pub use Rattle.array_fixed_invariant.proofs.history_invariant_laws_Behind
+pub use Rattle.array_fixed_invariant.proofs.history_invariant_laws_Plans
+pub use Rattle.array_fixed_invariant.proofs.sb_safe_updates_Under
+pub use Rattle.array_fixed_invariant.proofs.crash_reshape_laws_GrownLaws
+pub use Rattle.array_fixed_invariant.proofs.array_members_Fit
+pub use Rattle.array_fixed_invariant.proofs.history_append_CallLaws
+pub use Rattle.array_fixed_invariant.proofs.history_append_LeftLaws
+pub use Rattle.array_fixed_invariant.proofs.Bridges as array_fixed_invariant_Bridges
+pub use Rattle.array_fixed_invariant.proofs.Stood as array_fixed_invariant_Stood
+pub use Rattle.array_fixed_invariant.proofs.crash_views_Stands
+pub use Rattle.array_fixed_invariant.proofs.crash_reshape_laws_EndLaws
+pub use Rattle.array_fixed_invariant.proofs.crash_reshape_laws_TakenShapes
+pub use Rattle.array_fixed_invariant.proofs.crash_reshape_laws_Takeovers
+pub use Rattle.array_fixed_invariant.proofs.array_members_HeldRows
+pub use Rattle.array_fixed_invariant.proofs.array_members_MovedLaws
+pub use Rattle.array_fixed_invariant.proofs.history_SoundLaws
+pub use Rattle.array_fixed_invariant.proofs.crash_views_Alike
+pub use Rattle.array_fixed_invariant.proofs.crash_safety_laws_Steady
+pub use Rattle.array_fixed_invariant.proofs.array_members_SoundViews
+pub use Rattle.array_fixed_invariant.proofs.history_invariant_Calls
+pub use Rattle.array_fixed_invariant.proofs.history_invariant_Entered
+pub use Rattle.array_fixed_invariant.proofs.history_invariant_Growing
+pub use Rattle.array_fixed_invariant.proofs.history_invariant_KeptCalls
+pub use Rattle.array_fixed_invariant.proofs.history_invariant_Ledgers
+pub use Rattle.array_fixed_invariant.proofs.history_invariant_Lengths
+pub use Rattle.array_fixed_invariant.proofs.history_invariant_Longer
+pub use Rattle.array_fixed_invariant.proofs.history_invariant_Reshapes
+pub use Rattle.array_fixed_invariant.proofs.history_invariant_Tests
+pub use Rattle.array_fixed_invariant.proofs.history_invariant_Turned
+pub use Rattle.array_fixed_invariant.proofs.history_invariant_Turns
+pub use Rattle.array_fixed_invariant.proofs.array_call_specs_LedgerLaws
+pub use Rattle.array_fixed_invariant.proofs.history_laws_OneShapeGrowing
+pub use Rattle.array_fixed_invariant.proofs.history_append_PlainLaws
+pub use Rattle.array_fixed_invariant.proofs.raid_types_Least
+pub use Rattle.array_fixed_invariant.proofs.raid_types_Tabulated

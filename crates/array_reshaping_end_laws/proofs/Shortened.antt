@@ -3,73 +3,73 @@ use Rattle.std.proofs.Common.{◌≡◌, ◌≢◌, ◌⊎◌, inl, inr, ℕ, �
 use Rattle.std.specs.Prelude.{IsFalse, IfSome, ◌^◌, fold}
 use Rattle.std.proofs.lemmas.Bool.{and_parts, leb-true}
 use Rattle.std.proofs.lemmas.Bool.Decides.{nat_tests}
-use Rattle.array_reshaping_invariant.specs.raid_types_Sectors.{Sector}
-use Rattle.array_reshaping_invariant.specs.raid_types_the_Who.{Who}
-use Rattle.array_reshaping_invariant.specs.raid_types_the_Shape.{Shape}
-use Rattle.array_reshaping_invariant.specs.raid_types_Search.{count_below}
-use Rattle.array_reshaping_invariant.specs.raid_types_Shapes.{data_disks, is_multiple, tolerance, tolerance_of}
-use Rattle.array_reshaping_invariant.specs.bank_the_Operation.{Operation}
-use Rattle.array_reshaping_invariant.specs.bank_Given.{Given}
-use Rattle.array_reshaping_invariant.specs.bank_Tape.{contents, disk}
-use Rattle.array_reshaping_invariant.specs.sb_codec_the_Sb.{Sb}
-use Rattle.array_reshaping_invariant.specs.reshape_geometry_Geometry.{AreInForce}
-use Rattle.array_reshaping_invariant.proofs.reshape_geometry_Divisions.{next_multiple}
-use Rattle.array_reshaping_invariant.specs.sb_specs_the_Members.{Members}
-use Rattle.array_reshaping_invariant.specs.sb_specs_Held.{AreDrawn}
-use Rattle.array_reshaping_invariant.specs.sb_specs_Reading.{Scope, is_reshaping, is_backward, shape_of, list_length}
-use Rattle.array_reshaping_invariant.proofs.sb_specs_ValidFields.{few-roles}
-use Rattle.array_reshaping_invariant.specs.stripe_row_Rows.{reading_of, present, is_missing}
-use Rattle.array_reshaping_invariant.specs.history_the_Entry.{Entry}
-use Rattle.array_reshaping_invariant.specs.history_the_Event.{Event}
-use Rattle.array_reshaping_invariant.specs.history_the_Event_TheVariants.{Resized, Step}
-use Rattle.array_reshaping_invariant.specs.history_the_StepKind_TheVariants.{Begun}
-use Rattle.array_reshaping_invariant.specs.history_Epochs.{HasRoomForEvents}
-use Rattle.array_reshaping_invariant.specs.history_Flat.{now, values_after, resized}
-use Rattle.array_reshaping_invariant.specs.history_Legal.{told_left, left_after}
-use Rattle.array_reshaping_invariant.specs.history_Losses.{is_unsynced}
-use Rattle.array_reshaping_invariant.specs.history_Plain.{entries_of}
-use Rattle.array_reshaping_invariant.specs.history_Sound.{OpensFit}
-use Rattle.array_reshaping_invariant.specs.history_World.{World, contents_at, opening_list}
-use Rattle.array_reshaping_invariant.specs.crash_views_Regions.{DoWithout}
-use Rattle.array_reshaping_invariant.proofs.crash_views_Stands.{final-still}
-use Rattle.array_reshaping_invariant.specs.crash_reshape_laws_Ends.{IsCleared}
-use Rattle.array_reshaping_invariant.specs.crash_reshape_laws_Plans.{HasNoneRecovering}
-use Rattle.array_reshaping_invariant.proofs.crash_reshape_laws_EndLaws.{cleared-plain, fewer-pass}
-use Rattle.array_reshaping_invariant.specs.array_members_Moving.{Grows}
-use Rattle.array_reshaping_invariant.specs.array_members_Lacking.{DoesWithout, AreOtherRowsKept}
-use Rattle.array_reshaping_invariant.specs.array_members_Rebuilding.{AreSparesFree}
-use Rattle.array_reshaping_invariant.proofs.array_members_Fit.{count-alike, roles-still}
-use Rattle.array_reshaping_invariant.proofs.array_members_HeldRows.{missing-moved}
-use Rattle.array_reshaping_invariant.proofs.array_members_Still.{count-still}
-use Rattle.array_reshaping_invariant.specs.history_append_Losing.{losses_of}
-use Rattle.array_reshaping_invariant.proofs.history_append_CallLaws.{losses-are}
-use Rattle.array_reshaping_invariant.proofs.history_append_LeftLaws.{left-behind, fold-left}
-use Rattle.array_reshaping_invariant.specs.reshape_sb_updates_Beginning.{HasBegun, goes_back}
-use Rattle.array_reshaping_invariant.proofs.reshape_sb_updates_BegunPlan.{planned-begun-is}
-use Rattle.array_reshaping_invariant.specs.reshape_begin_end_Begun.{begun_plan}
-use Rattle.array_reshaping_invariant.specs.history_invariant_Recorded.{IsHistoryKept, IsCallGoing, IsOpenBehind}
-use Rattle.array_reshaping_invariant.specs.history_invariant_Safe.{world_in, IsFilledRight}
-use Rattle.array_reshaping_invariant.specs.history_invariant_Told.{told_now}
-use Rattle.array_reshaping_invariant.proofs.history_invariant_Calls.{now-live}
-use Rattle.array_reshaping_invariant.proofs.history_invariant_Growing.{fit-grown, room-before, room-now}
-use Rattle.array_reshaping_invariant.proofs.history_invariant_Lengths.{now-drawn}
-use Rattle.array_reshaping_invariant.proofs.history_invariant_Turned.{filled-before}
-use Rattle.array_reshaping_invariant.specs.reshape_progress_Laws.{closed}
-use Rattle.array_reshaping_invariant.proofs.reshape_progress_Frames.{does-or}
-use Rattle.array_reshaping_invariant.proofs.reshape_progress_Courses.{begins-stand}
-use Rattle.array_reshaping_invariant.specs.reshape_progress_resync_laws_Synced.{StandsSynced}
-use Rattle.array_reshaping_invariant.proofs.reshape_progress_resync_laws_Synced.{none-pending}
-use Rattle.array_reshaping_invariant.specs.history_invariant_laws_Reliable.{IsReliable, HasLastStep}
-use Rattle.array_reshaping_invariant.proofs.history_invariant_laws_Behind.{early-losses}
-use Rattle.array_reshaping_invariant.proofs.history_invariant_laws_LastStep.{keeps-last}
-use Rattle.array_reshaping_invariant.specs.Moving.{HasListInCourse, IsStillKept, IsMoving}
-use Rattle.array_reshaping_invariant.proofs.Begun.{AreBegun}
-use Rattle.array_reshaping_invariant.proofs.BegunCall.{IsBegunBy}
-use Rattle.array_reshaping_invariant.proofs.BegunMembers.{begun-members, begun-rows}
-use Rattle.array_reshaping_invariant.proofs.BegunRead.{begun-either}
-use Rattle.array_reshaping_invariant.proofs.Beginning.{safe-over}
-use Rattle.array_reshaping_invariant.proofs.Quiet.{IsLeftBy}
-use Rattle.array_reshaping_invariant.proofs.ReadShapes.{IsEitherRead}
+use Rattle.array_fixed_invariant.specs.raid_types_Sectors.{Sector}
+use Rattle.array_fixed_invariant.specs.raid_types_the_Who.{Who}
+use Rattle.array_fixed_invariant.specs.raid_types_the_Shape.{Shape}
+use Rattle.array_fixed_invariant.specs.raid_types_Search.{count_below}
+use Rattle.array_fixed_invariant.specs.raid_types_Shapes.{data_disks, is_multiple, tolerance, tolerance_of}
+use Rattle.array_fixed_invariant.specs.bank_the_Operation.{Operation}
+use Rattle.array_fixed_invariant.specs.bank_Given.{Given}
+use Rattle.array_fixed_invariant.specs.bank_Tape.{contents, disk}
+use Rattle.array_fixed_invariant.specs.sb_codec_the_Sb.{Sb}
+use Rattle.array_fixed_invariant.specs.reshape_geometry_Geometry.{AreInForce}
+use Rattle.array_fixed_invariant.proofs.reshape_geometry_Divisions.{next_multiple}
+use Rattle.array_fixed_invariant.specs.sb_specs_the_Members.{Members}
+use Rattle.array_fixed_invariant.specs.sb_specs_Held.{AreDrawn}
+use Rattle.array_fixed_invariant.specs.sb_specs_Reading.{Scope, is_reshaping, is_backward, shape_of, list_length}
+use Rattle.array_fixed_invariant.proofs.sb_specs_ValidFields.{few-roles}
+use Rattle.array_fixed_invariant.specs.stripe_row_Rows.{reading_of, present, is_missing}
+use Rattle.array_fixed_invariant.specs.history_the_Entry.{Entry}
+use Rattle.array_fixed_invariant.specs.history_the_Event.{Event}
+use Rattle.array_fixed_invariant.specs.history_the_Event_TheVariants.{Resized, Step}
+use Rattle.array_fixed_invariant.specs.history_the_StepKind_TheVariants.{Begun}
+use Rattle.array_fixed_invariant.specs.history_Epochs.{HasRoomForEvents}
+use Rattle.array_fixed_invariant.specs.history_Flat.{now, values_after, resized}
+use Rattle.array_fixed_invariant.specs.history_Legal.{told_left, left_after}
+use Rattle.array_fixed_invariant.specs.history_Losses.{is_unsynced}
+use Rattle.array_fixed_invariant.specs.history_Plain.{entries_of}
+use Rattle.array_fixed_invariant.specs.history_Sound.{OpensFit}
+use Rattle.array_fixed_invariant.specs.history_World.{World, contents_at, opening_list}
+use Rattle.array_fixed_invariant.specs.crash_views_Regions.{DoWithout}
+use Rattle.array_fixed_invariant.proofs.crash_views_Stands.{final-still}
+use Rattle.array_fixed_invariant.specs.crash_reshape_laws_Ends.{IsCleared}
+use Rattle.array_fixed_invariant.specs.crash_reshape_laws_Plans.{HasNoneRecovering}
+use Rattle.array_fixed_invariant.proofs.crash_reshape_laws_EndLaws.{cleared-plain, fewer-pass}
+use Rattle.array_fixed_invariant.specs.array_members_Moving.{Grows}
+use Rattle.array_fixed_invariant.specs.array_members_Lacking.{DoesWithout, AreOtherRowsKept}
+use Rattle.array_fixed_invariant.specs.array_members_Rebuilding.{AreSparesFree}
+use Rattle.array_fixed_invariant.proofs.array_members_Fit.{count-alike, roles-still}
+use Rattle.array_fixed_invariant.proofs.array_members_HeldRows.{missing-moved}
+use Rattle.array_fixed_invariant.proofs.array_members_Still.{count-still}
+use Rattle.array_fixed_invariant.specs.history_append_Losing.{losses_of}
+use Rattle.array_fixed_invariant.proofs.history_append_CallLaws.{losses-are}
+use Rattle.array_fixed_invariant.proofs.history_append_LeftLaws.{left-behind, fold-left}
+use Rattle.array_fixed_invariant.specs.reshape_sb_updates_Beginning.{HasBegun, goes_back}
+use Rattle.array_fixed_invariant.proofs.reshape_sb_updates_BegunPlan.{planned-begun-is}
+use Rattle.array_fixed_invariant.specs.reshape_begin_end_Begun.{begun_plan}
+use Rattle.array_fixed_invariant.specs.history_invariant_Recorded.{IsHistoryKept, IsCallGoing, IsOpenBehind}
+use Rattle.array_fixed_invariant.specs.history_invariant_Safe.{world_in, IsFilledRight}
+use Rattle.array_fixed_invariant.specs.history_invariant_Told.{told_now}
+use Rattle.array_fixed_invariant.proofs.history_invariant_Calls.{now-live}
+use Rattle.array_fixed_invariant.proofs.history_invariant_Growing.{fit-grown, room-before, room-now}
+use Rattle.array_fixed_invariant.proofs.history_invariant_Lengths.{now-drawn}
+use Rattle.array_fixed_invariant.proofs.history_invariant_Turned.{filled-before}
+use Rattle.array_fixed_invariant.specs.reshape_progress_Laws.{closed}
+use Rattle.array_fixed_invariant.proofs.reshape_progress_Frames.{does-or}
+use Rattle.array_fixed_invariant.proofs.reshape_progress_Courses.{begins-stand}
+use Rattle.array_fixed_invariant.specs.reshape_progress_resync_laws_Synced.{StandsSynced}
+use Rattle.array_fixed_invariant.proofs.reshape_progress_resync_laws_Synced.{none-pending}
+use Rattle.array_fixed_invariant.specs.history_invariant_laws_Reliable.{IsReliable, HasLastStep}
+use Rattle.array_fixed_invariant.proofs.history_invariant_laws_Behind.{early-losses}
+use Rattle.array_fixed_invariant.proofs.history_invariant_laws_LastStep.{keeps-last}
+use Rattle.array_fixed_invariant.specs.array_reshaping_invariant_Moving.{HasListInCourse, IsStillKept, IsMoving}
+use Rattle.array_fixed_invariant.proofs.array_reshaping_invariant_Begun.{AreBegun}
+use Rattle.array_fixed_invariant.proofs.array_reshaping_invariant_BegunCall.{IsBegunBy}
+use Rattle.array_fixed_invariant.proofs.array_reshaping_invariant_BegunMembers.{begun-members, begun-rows}
+use Rattle.array_fixed_invariant.proofs.array_reshaping_invariant_BegunRead.{begun-either}
+use Rattle.array_fixed_invariant.proofs.array_reshaping_invariant_Beginning.{safe-over}
+use Rattle.array_fixed_invariant.proofs.array_reshaping_invariant_Quiet.{IsLeftBy}
+use Rattle.array_fixed_invariant.proofs.array_reshaping_invariant_ReadShapes.{IsEitherRead}
 use Rattle.array_reshaping_end_laws.proofs.Shortening.{IsShorteningCall, shortened-gone, shortened-recorded, shortened-level, shortened-unclean, shortened-unsynced, shortened-values, shortened-safe}
 
 -- ---- the record

@@ -6,63 +6,63 @@ use Rattle.std.specs.List.{list_any}
 use Rattle.std.specs.Option.{option_map_or}
 use Rattle.std.proofs.lemmas.Bool.Decides.{nat_tests}
 use Rattle.std.proofs.lemmas.List.Sums.{fold-append}
-use Rattle.array_reshaping_invariant.specs.raid_types_Search.{all_below}
-use Rattle.array_reshaping_invariant.specs.raid_types_Sectors.{Sector}
-use Rattle.array_reshaping_invariant.specs.raid_types_the_Who.{Who}
-use Rattle.array_reshaping_invariant.specs.raid_types_the_Shape.{Shape}
-use Rattle.array_reshaping_invariant.specs.bank_the_Operation.{Operation}
-use Rattle.array_reshaping_invariant.specs.bank_Given.{Given, sizes}
-use Rattle.array_reshaping_invariant.specs.bank_Tape.{IsIn, disk}
-use Rattle.array_reshaping_invariant.specs.sb_codec_the_Sb.{Sb}
-use Rattle.array_reshaping_invariant.specs.sb_specs_the_Members.{Members}
-use Rattle.array_reshaping_invariant.specs.sb_specs_Reading.{Scope, Reading, shape_of, final_shape, list_length, role_count}
-use Rattle.array_reshaping_invariant.specs.stripe_row_Rows.{reading_of, is_missing}
-use Rattle.array_reshaping_invariant.specs.history_the_Entry.{Entry}
-use Rattle.array_reshaping_invariant.specs.history_the_Event.{Event}
-use Rattle.array_reshaping_invariant.specs.history_the_Event_TheVariants.{Resized, Step}
-use Rattle.array_reshaping_invariant.specs.history_the_StepKind_TheVariants.{Begun}
-use Rattle.array_reshaping_invariant.specs.history_Epochs.{HasRoomForEvents}
-use Rattle.array_reshaping_invariant.specs.history_Flat.{length_of, values_of, values_after, now, is_same_call}
-use Rattle.array_reshaping_invariant.specs.history_Flat.{resized as cut}
-use Rattle.array_reshaping_invariant.specs.history_Growing.{EndBy}
-use Rattle.array_reshaping_invariant.specs.history_Legal.{told_left, level_at, level_after, call_before, disturbs, is_all_gone, IsLengthOfLevel, IsUnkeptLength, IsResizedAfter, IsResized}
-use Rattle.array_reshaping_invariant.specs.history_Losses.{is_gone_after, is_unsynced, unsettles, loses}
-use Rattle.array_reshaping_invariant.specs.history_OneShape.{is_lost, is_unsettled}
-use Rattle.array_reshaping_invariant.specs.history_Plain.{entries_of}
-use Rattle.array_reshaping_invariant.specs.history_Sound.{OpensFit}
-use Rattle.array_reshaping_invariant.specs.history_World.{World, contents_at, reading_at, opening_list}
-use Rattle.array_reshaping_invariant.proofs.history_laws_OneShapeGrowing.{AreFaults, call-ends}
-use Rattle.array_reshaping_invariant.specs.crash_views_Views.{Ledger}
-use Rattle.array_reshaping_invariant.specs.crash_safety_laws_Changing.{IsSafeChange}
-use Rattle.array_reshaping_invariant.specs.crash_safety_laws_Safety.{HasLiveSlot, HasRoomLeft, IsRisen}
-use Rattle.array_reshaping_invariant.specs.array_members_Placed.{IsPlaced}
-use Rattle.array_reshaping_invariant.specs.crash_safety_laws_Steady.{AreUnlost, IsMoreTold, IsSafeNow, IsSafeOver, AreGoneTold}
-use Rattle.array_reshaping_invariant.specs.crash_reshape_laws_Ends.{IsToldWith}
-use Rattle.array_reshaping_invariant.proofs.array_members_SoundViews.{throughout-changed}
-use Rattle.array_reshaping_invariant.specs.history_append_Losing.{losses_of}
-use Rattle.array_reshaping_invariant.proofs.history_append_CallLaws.{losses-are}
-use Rattle.array_reshaping_invariant.proofs.history_append_StepLaws.{faults-are}
-use Rattle.array_reshaping_invariant.specs.history_invariant_Recorded.{IsHistoryKept, IsLegalCall, IsCallGoing, IsOpenBehind, entry_of, ends_reshape, gives_some}
-use Rattle.array_reshaping_invariant.specs.history_invariant_Safe.{world_in, IsFilledRight, IsSafeHistory}
-use Rattle.array_reshaping_invariant.specs.history_invariant_Told.{told_now, told_by}
-use Rattle.array_reshaping_invariant.proofs.history_invariant_Growing.{reading-grown, opening-grown, fit-grown, gone-grown, unsynced-grown, now-grown, room-before, room-now}
-use Rattle.array_reshaping_invariant.proofs.history_invariant_Ledgers.{more-then, any-gone, unclean-now}
-use Rattle.array_reshaping_invariant.proofs.history_invariant_Longer.{regains-none}
-use Rattle.array_reshaping_invariant.proofs.history_invariant_Lengths.{length-now}
-use Rattle.array_reshaping_invariant.proofs.history_invariant_Lists.{newest-in}
-use Rattle.array_reshaping_invariant.proofs.history_invariant_Calls.{now-live}
-use Rattle.array_reshaping_invariant.proofs.history_invariant_Entered.{AreAdding, told-adding, settle-none, values-more, values-adding, length-adding, gone-was, gone-lost}
-use Rattle.array_reshaping_invariant.proofs.history_invariant_KeptCalls.{kept-call}
-use Rattle.array_reshaping_invariant.proofs.history_invariant_Reshapes.{call-ends_none}
-use Rattle.array_reshaping_invariant.proofs.history_invariant_Turned.{begun-old, filled-before}
-use Rattle.array_reshaping_invariant.proofs.history_invariant_Turns.{turned-length, turned-values, resized-call}
-use Rattle.array_reshaping_invariant.specs.history_invariant_laws_Reliable.{IsReliable, AreToldGone}
-use Rattle.array_reshaping_invariant.proofs.Beginning.{told_before}
-use Rattle.array_reshaping_invariant.proofs.history_invariant_laws_Behind.{IsAmong, early-losses, inner-of, legal-losses, or-false}
-use Rattle.array_reshaping_invariant.proofs.NoneLeft.{all_below-each, none-held}
-use Rattle.array_reshaping_invariant.proofs.ReadShapes.{HasShapesOf, IsEitherRead}
-use Rattle.array_reshaping_invariant.proofs.history_invariant_laws_LastStep.{last-step}
-use Rattle.array_reshaping_invariant.proofs.array_call_specs_LedgerLaws.{none-ends, unsynced-more}
+use Rattle.array_fixed_invariant.specs.raid_types_Search.{all_below}
+use Rattle.array_fixed_invariant.specs.raid_types_Sectors.{Sector}
+use Rattle.array_fixed_invariant.specs.raid_types_the_Who.{Who}
+use Rattle.array_fixed_invariant.specs.raid_types_the_Shape.{Shape}
+use Rattle.array_fixed_invariant.specs.bank_the_Operation.{Operation}
+use Rattle.array_fixed_invariant.specs.bank_Given.{Given, sizes}
+use Rattle.array_fixed_invariant.specs.bank_Tape.{IsIn, disk}
+use Rattle.array_fixed_invariant.specs.sb_codec_the_Sb.{Sb}
+use Rattle.array_fixed_invariant.specs.sb_specs_the_Members.{Members}
+use Rattle.array_fixed_invariant.specs.sb_specs_Reading.{Scope, Reading, shape_of, final_shape, list_length, role_count}
+use Rattle.array_fixed_invariant.specs.stripe_row_Rows.{reading_of, is_missing}
+use Rattle.array_fixed_invariant.specs.history_the_Entry.{Entry}
+use Rattle.array_fixed_invariant.specs.history_the_Event.{Event}
+use Rattle.array_fixed_invariant.specs.history_the_Event_TheVariants.{Resized, Step}
+use Rattle.array_fixed_invariant.specs.history_the_StepKind_TheVariants.{Begun}
+use Rattle.array_fixed_invariant.specs.history_Epochs.{HasRoomForEvents}
+use Rattle.array_fixed_invariant.specs.history_Flat.{length_of, values_of, values_after, now, is_same_call}
+use Rattle.array_fixed_invariant.specs.history_Flat.{resized as cut}
+use Rattle.array_fixed_invariant.specs.history_Growing.{EndBy}
+use Rattle.array_fixed_invariant.specs.history_Legal.{told_left, level_at, level_after, call_before, disturbs, is_all_gone, IsLengthOfLevel, IsUnkeptLength, IsResizedAfter, IsResized}
+use Rattle.array_fixed_invariant.specs.history_Losses.{is_gone_after, is_unsynced, unsettles, loses}
+use Rattle.array_fixed_invariant.specs.history_OneShape.{is_lost, is_unsettled}
+use Rattle.array_fixed_invariant.specs.history_Plain.{entries_of}
+use Rattle.array_fixed_invariant.specs.history_Sound.{OpensFit}
+use Rattle.array_fixed_invariant.specs.history_World.{World, contents_at, reading_at, opening_list}
+use Rattle.array_fixed_invariant.proofs.history_laws_OneShapeGrowing.{AreFaults, call-ends}
+use Rattle.array_fixed_invariant.specs.crash_views_Views.{Ledger}
+use Rattle.array_fixed_invariant.specs.crash_safety_laws_Changing.{IsSafeChange}
+use Rattle.array_fixed_invariant.specs.crash_safety_laws_Safety.{HasLiveSlot, HasRoomLeft, IsRisen}
+use Rattle.array_fixed_invariant.specs.array_members_Placed.{IsPlaced}
+use Rattle.array_fixed_invariant.specs.crash_safety_laws_Steady.{AreUnlost, IsMoreTold, IsSafeNow, IsSafeOver, AreGoneTold}
+use Rattle.array_fixed_invariant.specs.crash_reshape_laws_Ends.{IsToldWith}
+use Rattle.array_fixed_invariant.proofs.array_members_SoundViews.{throughout-changed}
+use Rattle.array_fixed_invariant.specs.history_append_Losing.{losses_of}
+use Rattle.array_fixed_invariant.proofs.history_append_CallLaws.{losses-are}
+use Rattle.array_fixed_invariant.proofs.history_append_StepLaws.{faults-are}
+use Rattle.array_fixed_invariant.specs.history_invariant_Recorded.{IsHistoryKept, IsLegalCall, IsCallGoing, IsOpenBehind, entry_of, ends_reshape, gives_some}
+use Rattle.array_fixed_invariant.specs.history_invariant_Safe.{world_in, IsFilledRight, IsSafeHistory}
+use Rattle.array_fixed_invariant.specs.history_invariant_Told.{told_now, told_by}
+use Rattle.array_fixed_invariant.proofs.history_invariant_Growing.{reading-grown, opening-grown, fit-grown, gone-grown, unsynced-grown, now-grown, room-before, room-now}
+use Rattle.array_fixed_invariant.proofs.history_invariant_Ledgers.{more-then, any-gone, unclean-now}
+use Rattle.array_fixed_invariant.proofs.history_invariant_Longer.{regains-none}
+use Rattle.array_fixed_invariant.proofs.history_invariant_Lengths.{length-now}
+use Rattle.array_fixed_invariant.proofs.history_invariant_Lists.{newest-in}
+use Rattle.array_fixed_invariant.proofs.history_invariant_Calls.{now-live}
+use Rattle.array_fixed_invariant.proofs.history_invariant_Entered.{AreAdding, told-adding, settle-none, values-more, values-adding, length-adding, gone-was, gone-lost}
+use Rattle.array_fixed_invariant.proofs.history_invariant_KeptCalls.{kept-call}
+use Rattle.array_fixed_invariant.proofs.history_invariant_Reshapes.{call-ends_none}
+use Rattle.array_fixed_invariant.proofs.history_invariant_Turned.{begun-old, filled-before}
+use Rattle.array_fixed_invariant.proofs.history_invariant_Turns.{turned-length, turned-values, resized-call}
+use Rattle.array_fixed_invariant.specs.history_invariant_laws_Reliable.{IsReliable, AreToldGone}
+use Rattle.array_fixed_invariant.proofs.array_reshaping_invariant_Beginning.{told_before}
+use Rattle.array_fixed_invariant.proofs.history_invariant_laws_Behind.{IsAmong, early-losses, inner-of, legal-losses, or-false}
+use Rattle.array_fixed_invariant.proofs.array_reshaping_invariant_NoneLeft.{all_below-each, none-held}
+use Rattle.array_fixed_invariant.proofs.array_reshaping_invariant_ReadShapes.{HasShapesOf, IsEitherRead}
+use Rattle.array_fixed_invariant.proofs.history_invariant_laws_LastStep.{last-step}
+use Rattle.array_fixed_invariant.proofs.array_call_specs_LedgerLaws.{none-ends, unsynced-more}
 
 -- What the begin of such a reshape leaves: its update is safe from one ledger to another, what is missing then was missing among the roles of the old shape or is told
 -- lost, what is read at its end says the shapes as before or as planned, and the list has its new length, that of a shape of the array's level.

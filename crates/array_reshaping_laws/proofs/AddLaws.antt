@@ -2,8 +2,8 @@
 use Rattle.std.proofs.Common.{◌≡◌, ◌≢◌, inl, ℕ, ◌*◌, ◌<◌, ◌≤◌, ◌==◌, Bool, true, false, List, [], length, Option, Some, refl, sym, ◌∙◌, ap, subst, arith, append-nil}
 use Rattle.std.proofs.lemmas.Bool.Decides.{nat_tests}
 use Rattle.std.proofs.lemmas.List.Elements.{All-nil}
-use Rattle.array_specs.specs.raid_types_Sectors.{Sector}
-use Rattle.array_specs.specs.raid_types_the_Refusal.{Refusal}
+use Rattle.array_fixed_laws.specs.raid_types_Sectors.{Sector}
+use Rattle.array_fixed_laws.specs.raid_types_the_Refusal.{Refusal}
 use Rattle.reshape_window_backup.specs.bank_the_Operation.{Operation}
 use Rattle.reshape_window_backup.specs.bank_Given.{Given}
 use Rattle.reshape_window_backup.specs.bank_Tape.{IsIn, disk}
@@ -23,20 +23,20 @@ use Rattle.array_reshaping_resync_laws.specs.array_members_Rebuilding.{Held, wit
 use Rattle.array_reshaping_resync_laws.specs.array_members_Under.{IsRestKept}
 use Rattle.array_reshaping_resync_laws.proofs.history_append_BearerLaws.{bears-more, bears-new}
 use Rattle.array_reshaping_resync_laws.proofs.array_members_MovedLaws.{grows-none, grows-then}
-use Rattle.array_specs.specs.array_call_specs_Kept.{scope_in}
-use Rattle.array_specs.specs.array_call_specs_Calls.{IsUnaddable, IsLossBy, WasSpare, AreLossesOf, IsEndOf, IsWorkAdded}
-use Rattle.array_specs.proofs.array_call_specs_ReadyLaws.{list-same}
-use Rattle.array_specs.proofs.array_call_laws_AddLaws.{slot-free}
-use Rattle.array_specs.proofs.array_call_laws_AddedKept.{AddsSafe}
-use Rattle.array_specs.proofs.array_call_laws_AddedNumbers.{work-kept, work-added}
-use Rattle.array_specs.proofs.array_call_laws_AddedLosses.{IsAddDone, spares-added}
+use Rattle.array_fixed_laws.specs.array_call_specs_Kept.{scope_in}
+use Rattle.array_fixed_laws.specs.array_call_specs_Calls.{IsUnaddable, IsLossBy, WasSpare, AreLossesOf, IsEndOf, IsWorkAdded}
+use Rattle.array_fixed_laws.proofs.array_call_specs_ReadyLaws.{list-same}
+use Rattle.array_fixed_laws.proofs.array_call_laws_AddLaws.{slot-free}
+use Rattle.array_fixed_laws.proofs.array_call_laws_AddedKept.{AddsSafe}
+use Rattle.array_fixed_laws.proofs.array_call_laws_AddedNumbers.{work-kept, work-added}
+use Rattle.array_fixed_laws.proofs.array_call_laws_AddedLosses.{IsAddDone, spares-added}
 use Rattle.array_reshaping_resync_laws.specs.reshape_request_the_PhasesLeft.{PhasesLeft}
 use Rattle.array_reshaping_resync_laws.specs.reshape_progress_the_Course.{Course}
 use Rattle.array_reshaping_resync_laws.proofs.array_reshaping_invariant_AddedSpare.{IsSpareMade}
 use Rattle.array_reshaping_resync_laws.proofs.array_reshaping_invariant_Steps.{missing-since}
-use Rattle.array_specs.specs.Parts.{RunningParts}
-use Rattle.array_specs.specs.Calls.{IsCalled}
-use Rattle.array_specs.specs.Adding.{IsAddCalled}
+use Rattle.array_fixed_laws.specs.array_specs_Parts.{RunningParts}
+use Rattle.array_fixed_laws.specs.array_specs_Calls.{IsCalled}
+use Rattle.array_fixed_laws.specs.array_specs_Adding.{IsAddCalled}
 use Rattle.array_reshaping_laws.specs.Ready.{IsReady}
 
 -- ---- room for more entries

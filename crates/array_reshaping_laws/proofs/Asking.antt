@@ -1,7 +1,7 @@
 -- What an array in a reshape tells of itself, and what it keeps after that, and after its end.
 use Rattle.std.proofs.Common.{◌≡◌, ◌≢◌, ℕ, ◌++◌, Bool, Option, List, [], ◌∷◌, length, refl, sym, ◌∙◌, arith}
-use Rattle.array_specs.specs.raid_types_the_Who.{Who}
-use Rattle.array_specs.specs.raid_types_the_Status.{Status}
+use Rattle.array_fixed_laws.specs.raid_types_the_Who.{Who}
+use Rattle.array_fixed_laws.specs.raid_types_the_Status.{Status}
 use Rattle.reshape_window_backup.specs.bank_the_Operation.{Operation}
 use Rattle.reshape_window_backup.specs.bank_Given.{Given}
 use Rattle.array_reshaping_resync_laws.specs.sb_specs_the_Members.{Members}
@@ -16,16 +16,16 @@ use Rattle.array_reshaping_resync_laws.specs.history_Plain.{entries_of}
 use Rattle.array_reshaping_resync_laws.proofs.history_SoundLaws.{stays-throughout}
 use Rattle.array_reshaping_resync_laws.proofs.history_laws_NumberLaws.{safe-throughout}
 use Rattle.array_reshaping_resync_laws.proofs.history_append_LeftLaws.{keeps-left}
-use Rattle.array_specs.specs.array_call_specs_Kept.{scope_in}
+use Rattle.array_fixed_laws.specs.array_call_specs_Kept.{scope_in}
 use Rattle.array_reshaping_resync_laws.specs.history_invariant_Recorded.{entry_of}
 use Rattle.array_reshaping_resync_laws.proofs.history_invariant_Records.{begins-going}
-use Rattle.array_specs.specs.history_invariant_laws_Reliable.{IsReliable}
-use Rattle.array_specs.proofs.history_invariant_laws_Quiet.{IsQuiet}
+use Rattle.array_fixed_laws.specs.history_invariant_laws_Reliable.{IsReliable}
+use Rattle.array_fixed_laws.proofs.history_invariant_laws_Quiet.{IsQuiet}
 use Rattle.array_reshaping_resync_laws.specs.reshape_progress_the_Course.{Course}
 use Rattle.array_reshaping_resync_laws.specs.array_reshaping_invariant_Moving.{IsMoving}
 use Rattle.array_reshaping_resync_laws.proofs.array_reshaping_invariant_Resting.{resting-moves}
-use Rattle.array_specs.specs.Parts.{RunningParts}
-use Rattle.array_specs.specs.Calls.{IsStatusFor, IsEpochKept}
+use Rattle.array_fixed_laws.specs.array_specs_Parts.{RunningParts}
+use Rattle.array_fixed_laws.specs.array_specs_Calls.{IsStatusFor, IsEpochKept}
 
 -- two statuses that tell the same array are the same
 pub status-same : {B : Type 0} (array : RunningParts B) (one other : Status) → IsStatusFor array one → IsStatusFor array other → one ≡ other

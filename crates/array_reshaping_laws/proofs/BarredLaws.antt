@@ -1,13 +1,13 @@
 -- A write of an array in a reshape whose window may be unsure: why it isn't done, and its reply.
 use Rattle.std.specs.Prelude.{IfSome, IsErr, OnOk, OnErr}
 use Rattle.std.proofs.Common.{◌≡◌, ◌⊎◌, inl, inr, ℕ, ◌+◌, false, Option, Result, Ok, Err, List, length, refl, sym, ap, subst}
-use Rattle.array_specs.specs.raid_types_Sectors.{Sector}
-use Rattle.array_specs.specs.raid_types_the_Fault.{Fault as AnyFault}
-use Rattle.array_specs.specs.raid_types_the_Fault_TheVariants.{Refused as IsRefusedWith, NoMemory}
-use Rattle.array_specs.specs.raid_types_the_Refusal.{Refusal}
-use Rattle.array_specs.specs.raid_types_the_Refusal_TheVariants.{PastEnd, BackupFault}
-use Rattle.array_specs.specs.raid_types_the_Who.{Who}
-use Rattle.array_specs.specs.raid_types_the_Span.{Span}
+use Rattle.array_fixed_laws.specs.raid_types_Sectors.{Sector}
+use Rattle.array_fixed_laws.specs.raid_types_the_Fault.{Fault as AnyFault}
+use Rattle.array_fixed_laws.specs.raid_types_the_Fault_TheVariants.{Refused as IsRefusedWith, NoMemory}
+use Rattle.array_fixed_laws.specs.raid_types_the_Refusal.{Refusal}
+use Rattle.array_fixed_laws.specs.raid_types_the_Refusal_TheVariants.{PastEnd, BackupFault}
+use Rattle.array_fixed_laws.specs.raid_types_the_Who.{Who}
+use Rattle.array_fixed_laws.specs.raid_types_the_Span.{Span}
 use Rattle.reshape_window_backup.specs.bank_Given.{IsFaulted}
 use Rattle.array_reshaping_resync_laws.specs.sb_specs_the_Members.{Members}
 use Rattle.array_reshaping_resync_laws.specs.history_the_Entry.{Entry}
@@ -16,17 +16,17 @@ use Rattle.array_reshaping_resync_laws.specs.history_Flat.{next_number, length_o
 use Rattle.array_reshaping_resync_laws.specs.crash_views_Regions.{DoWithout}
 use Rattle.array_reshaping_resync_laws.specs.array_members_Lacking.{AreTooMany}
 use Rattle.array_reshaping_resync_laws.proofs.array_members_LackingLaws.{never-both}
-use Rattle.array_specs.specs.array_call_specs_Calls.{IsRefusedFor, IsCausedBy}
-use Rattle.array_specs.proofs.array_call_specs_LossLaws.{behind-alone}
+use Rattle.array_fixed_laws.specs.array_call_specs_Calls.{IsRefusedFor, IsCausedBy}
+use Rattle.array_fixed_laws.proofs.array_call_specs_LossLaws.{behind-alone}
 use Rattle.array_reshaping_resync_laws.specs.reshape_request_the_Window.{Window}
 use Rattle.array_reshaping_resync_laws.specs.reshape_request_the_Window_TheVariants.{Unsure}
 use Rattle.array_reshaping_resync_laws.specs.reshape_progress_the_Course.{Course}
 use Rattle.array_reshaping_resync_laws.specs.reshape_progress_Laws.{closed, unsure}
 use Rattle.array_reshaping_resync_laws.specs.stripe_region_write_Runs.{IsListUnwritten}
-use Rattle.array_specs.specs.array_reshaping_state_Left.{visible_by}
-use Rattle.array_specs.specs.Calls.{IsStepTaken, IsEnterCaused}
+use Rattle.array_fixed_laws.specs.array_reshaping_state_Left.{visible_by}
+use Rattle.array_fixed_laws.specs.array_specs_Calls.{IsStepTaken, IsEnterCaused}
 use Rattle.array_reshaping_resync_laws.specs.history_the_StepKind.{StepKind}
-use Rattle.array_specs.specs.array_reshaping_state_Due.{open_in}
+use Rattle.array_fixed_laws.specs.array_reshaping_state_Due.{open_in}
 use Rattle.array_reshaping_laws.specs.Writing.{TouchesUnsure, IsWriteLacked, IsWriteBarred, IsWriteEntered, IsWriteAnswered, IsWriteReplied, IsRefusedAlone}
 use Rattle.array_reshaping_laws.proofs.WriteReplies.{lacked-missing, write-answered}
 

@@ -1,10 +1,10 @@
 -- A stripe of the open window is copied: what the array keeps, and what it answers.
 use Rattle.std.proofs.Common.{◌≡◌, ◌≢◌, inr, ℕ, ◌+◌, ◌-◌, ◌*◌, ◌<◌, ◌≤◌, ◌==◌, Bool, true, false, cond, Option, Some, None, List, [], ◌∷◌, ◌++◌, length, take, refl, sym, ◌∙◌, ap, subst, arith}
 use Rattle.std.specs.Prelude.{IsFalse, ⊤}
-use Rattle.array_specs.specs.raid_types_Sectors.{Sector}
-use Rattle.array_specs.specs.raid_types_the_Refusal.{Refusal}
-use Rattle.array_specs.specs.raid_types_the_Who.{Who}
-use Rattle.array_specs.specs.raid_types_the_Span.{Span}
+use Rattle.array_fixed_laws.specs.raid_types_Sectors.{Sector}
+use Rattle.array_fixed_laws.specs.raid_types_the_Refusal.{Refusal}
+use Rattle.array_fixed_laws.specs.raid_types_the_Who.{Who}
+use Rattle.array_fixed_laws.specs.raid_types_the_Span.{Span}
 use Rattle.reshape_window_backup.specs.bank_the_Operation.{Operation}
 use Rattle.reshape_window_backup.specs.bank_Given.{Given}
 use Rattle.reshape_window_backup.specs.bank_Tape.{disk}
@@ -27,7 +27,7 @@ use Rattle.array_reshaping_resync_laws.specs.crash_safety_laws_Safety.{HasLiveSl
 use Rattle.array_reshaping_resync_laws.specs.crash_safety_laws_Steady.{IsSafeOver, KeepsSafe, AreGoneTold, IsUncleanTold}
 use Rattle.array_reshaping_resync_laws.specs.array_members_Moving.{Grows, IsMoved}
 use Rattle.array_reshaping_resync_laws.specs.array_members_Lacking.{AreTooMany, AreOtherRowsKept, IsOfStripe}
-use Rattle.array_specs.specs.sb_safe_updates_Unused.{IsUnusedKept}
+use Rattle.array_fixed_laws.specs.sb_safe_updates_Unused.{IsUnusedKept}
 use Rattle.array_reshaping_resync_laws.specs.history_append_Losing.{losses_of}
 use Rattle.array_reshaping_resync_laws.specs.reshape_request_the_Window_TheVariants.{Entered}
 use Rattle.array_reshaping_resync_laws.specs.reshape_request_the_PhasesLeft.{PhasesLeft}
@@ -44,9 +44,9 @@ use Rattle.array_reshaping_resync_laws.specs.array_reshaping_invariant_Moving.{I
 use Rattle.array_reshaping_resync_laws.proofs.array_reshaping_invariant_Pending.{unmended-of}
 use Rattle.array_reshaping_resync_laws.proofs.array_reshaping_invariant_Staying.{refused-moves}
 use Rattle.array_reshaping_resync_laws.proofs.array_reshaping_invariant_Steps.{AreMissingSince, able-kept, plain-of, copied-moves}
-use Rattle.array_specs.specs.Parts.{RunningParts}
+use Rattle.array_fixed_laws.specs.array_specs_Parts.{RunningParts}
 use Rattle.array_reshaping_laws.specs.Ready.{bytes_in}
-use Rattle.array_specs.specs.Calls.{IsCopyDue}
+use Rattle.array_fixed_laws.specs.array_specs_Calls.{IsCopyDue}
 use Rattle.array_reshaping_laws.proofs.Kept.{left_by, left-moved}
 use Rattle.array_reshaping_resync_laws.proofs.history_invariant_Turned.{fills-on_course}
 use Rattle.array_reshaping_laws.proofs.WriteLaws.{same-span, same-count, same-flag}

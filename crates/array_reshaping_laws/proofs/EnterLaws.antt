@@ -1,17 +1,17 @@
 -- The backup of an array in a reshape, which has room for the section of the next window.
 use Rattle.std.proofs.Common.{◌≡◌, ℕ, ◌+◌, ◌-◌, ◌<◌, ◌≤◌, ◌&&◌, ◌||◌, nat_le, nat_lt, Bool, true, false, not, if◌then◌else◌, Option, Some, None, List, refl, sym, subst, arith}
 use Rattle.std.proofs.lemmas.Bool.Decides.{nat_tests}
-use Rattle.array_specs.specs.raid_types_Shapes.{has_slot}
-use Rattle.array_specs.specs.raid_types_the_Refusal.{Refusal}
-use Rattle.array_specs.specs.raid_types_the_Refusal_TheVariants.{BackupAbsent}
-use Rattle.array_specs.specs.raid_types_the_Span.{Span}
+use Rattle.array_fixed_laws.specs.raid_types_Shapes.{has_slot}
+use Rattle.array_fixed_laws.specs.raid_types_the_Refusal.{Refusal}
+use Rattle.array_fixed_laws.specs.raid_types_the_Refusal_TheVariants.{BackupAbsent}
+use Rattle.array_fixed_laws.specs.raid_types_the_Span.{Span}
 use Rattle.reshape_window_backup.specs.bank_Given.{Given}
 use Rattle.array_reshaping_resync_laws.specs.sb_specs_the_Members.{Members}
 use Rattle.array_reshaping_resync_laws.specs.sb_specs_Reading.{is_reshaping, next_window}
 use Rattle.array_reshaping_resync_laws.specs.history_Stands.{reach_of}
-use Rattle.array_specs.specs.array_call_specs_Kept.{scope_in}
+use Rattle.array_fixed_laws.specs.array_call_specs_Kept.{scope_in}
 use Rattle.reshape_window_backup.specs.Backup.{IsBackupFor}
-use Rattle.array_specs.proofs.array_reshaping_state_ReshapeLaws.{window-reach}
+use Rattle.array_fixed_laws.proofs.array_reshaping_state_ReshapeLaws.{window-reach}
 use Rattle.array_reshaping_resync_laws.specs.array_reshaping_invariant_Moving.{AreReshaping}
 
 -- ---- the backup

@@ -1,13 +1,13 @@
 -- A step that enters the next window, or is refused: what the array keeps of it.
 use Rattle.std.proofs.Common.{◌≡◌, ◌≢◌, ◌⊎◌, inl, inr, ℕ, ◌+◌, ◌-◌, ◌*◌, ◌<◌, ◌==◌, Bool, true, false, Option, Some, None, List, [], ◌∷◌, ◌++◌, length, take, refl, sym, ◌∙◌, ap, subst, arith}
 use Rattle.std.specs.Prelude.{IfSome, IsFalse, MatchOption, ⊤}
-use Rattle.array_specs.specs.raid_types_Sectors.{Sector}
-use Rattle.array_specs.specs.raid_types_Shapes.{tolerance, tolerance_of}
-use Rattle.array_specs.specs.raid_types_the_Refusal.{Refusal}
-use Rattle.array_specs.specs.raid_types_the_Refusal_TheVariants.{BackupFault}
-use Rattle.array_specs.specs.raid_types_the_Who.{Who}
-use Rattle.array_specs.specs.raid_types_the_Shape.{Shape}
-use Rattle.array_specs.specs.raid_types_the_Span.{Span}
+use Rattle.array_fixed_laws.specs.raid_types_Sectors.{Sector}
+use Rattle.array_fixed_laws.specs.raid_types_Shapes.{tolerance, tolerance_of}
+use Rattle.array_fixed_laws.specs.raid_types_the_Refusal.{Refusal}
+use Rattle.array_fixed_laws.specs.raid_types_the_Refusal_TheVariants.{BackupFault}
+use Rattle.array_fixed_laws.specs.raid_types_the_Who.{Who}
+use Rattle.array_fixed_laws.specs.raid_types_the_Shape.{Shape}
+use Rattle.array_fixed_laws.specs.raid_types_the_Span.{Span}
 use Rattle.reshape_window_backup.specs.bank_the_Operation.{Operation}
 use Rattle.reshape_window_backup.specs.bank_Given.{Given}
 use Rattle.reshape_window_backup.specs.bank_Tape.{Contents, IsIn, disk}
@@ -51,19 +51,19 @@ use Rattle.array_reshaping_resync_laws.specs.history_invariant_Recorded.{IsCallG
 use Rattle.array_reshaping_resync_laws.specs.history_invariant_Safe.{world_in, IsFilledRight, TakesNone, OpensOnCourse}
 use Rattle.array_reshaping_resync_laws.proofs.history_invariant_Entered.{adds_only}
 use Rattle.array_reshaping_resync_laws.proofs.history_invariant_Lists.{newest-in}
-use Rattle.array_specs.specs.history_invariant_laws_Reliable.{IsReliable, AreToldGone}
-use Rattle.array_specs.proofs.history_invariant_laws_Adding.{IsAdding, ChangesEarly, changing-leaves}
-use Rattle.array_specs.proofs.history_invariant_laws_Behind.{IsAmong, and-true, early-losses, first-of, legal-losses}
-use Rattle.array_specs.proofs.history_invariant_laws_LastStep.{IsWithin, losses-within}
-use Rattle.array_specs.proofs.history_invariant_laws_Quiet.{IsQuiet, IsLeftBehind, fit-later, quiet-now, last-left}
+use Rattle.array_fixed_laws.specs.history_invariant_laws_Reliable.{IsReliable, AreToldGone}
+use Rattle.array_fixed_laws.proofs.history_invariant_laws_Adding.{IsAdding, ChangesEarly, changing-leaves}
+use Rattle.array_fixed_laws.proofs.history_invariant_laws_Behind.{IsAmong, and-true, early-losses, first-of, legal-losses}
+use Rattle.array_fixed_laws.proofs.history_invariant_laws_LastStep.{IsWithin, losses-within}
+use Rattle.array_fixed_laws.proofs.history_invariant_laws_Quiet.{IsQuiet, IsLeftBehind, fit-later, quiet-now, last-left}
 use Rattle.array_reshaping_resync_laws.specs.reshape_progress_the_Course.{Course}
 use Rattle.array_reshaping_resync_laws.specs.reshape_progress_Course.{HasWindowIn, IsCourseOf, IsStored, StandsInCourse}
 use Rattle.array_reshaping_resync_laws.specs.reshape_progress_Laws.{closed}
 use Rattle.array_reshaping_resync_laws.proofs.reshape_progress_Courses.{enters-stand}
 use Rattle.array_reshaping_resync_laws.proofs.reshape_progress_Frames.{stands-on, stands-whole}
 use Rattle.array_reshaping_resync_laws.specs.reshape_progress_resync_laws_Synced.{IsUnsynced, StandsSynced}
-use Rattle.array_specs.proofs.array_reshaping_state_LeftLaws.{plans-counted, some-left}
-use Rattle.array_specs.proofs.array_reshaping_state_ReshapeLaws.{under-way-of}
+use Rattle.array_fixed_laws.proofs.array_reshaping_state_LeftLaws.{plans-counted, some-left}
+use Rattle.array_fixed_laws.proofs.array_reshaping_state_ReshapeLaws.{under-way-of}
 use Rattle.array_reshaping_resync_laws.specs.array_reshaping_invariant_Moving.{HasListInCourse, IsMoving}
 use Rattle.array_reshaping_resync_laws.proofs.array_reshaping_invariant_Pending.{HasResync, resync-of, resync-moved, pending-on, none-stands, none-on, mended-later}
 use Rattle.array_reshaping_resync_laws.proofs.array_reshaping_invariant_Quiet.{safe-now, course-earlier}
@@ -71,7 +71,7 @@ use Rattle.array_reshaping_resync_laws.proofs.array_reshaping_invariant_MembersM
 use Rattle.array_reshaping_resync_laws.proofs.array_reshaping_invariant_Refusals.{quiet-refusal, refused-right}
 use Rattle.array_reshaping_resync_laws.proofs.array_reshaping_invariant_Steps.{AreMissingSince, missing-moved, quiet-step, step-is, told-behind, told-step}
 use Rattle.array_reshaping_laws.specs.Ready.{bytes_in}
-use Rattle.array_specs.proofs.Called.{not_254}
+use Rattle.array_fixed_laws.proofs.array_specs_Called.{not_254}
 use Rattle.array_reshaping_laws.proofs.Kept.{left_by, left-moved, behind-whole, takes-before}
 use Rattle.array_reshaping_laws.proofs.RecordLaws.{closed-bare}
 use Rattle.array_reshaping_resync_laws.proofs.history_invariant_Turned.{fills-on_course}

@@ -7,7 +7,7 @@ use Rattle.array_reshaping_resync_laws.specs.sb_specs_the_Members.{Members}
 use Rattle.array_reshaping_resync_laws.specs.sb_specs_Reading.{Scope}
 use Rattle.array_reshaping_resync_laws.specs.history_the_Entry.{Entry}
 use Rattle.array_reshaping_resync_laws.specs.array_members_the_Work.{Work}
-use Rattle.array_specs.specs.array_call_specs_Kept.{scope_in}
+use Rattle.array_fixed_laws.specs.array_call_specs_Kept.{scope_in}
 use Rattle.array_reshaping_resync_laws.specs.reshape_request_the_PhasesLeft.{PhasesLeft}
 use Rattle.array_reshaping_resync_laws.specs.reshape_progress_the_Course.{Course}
 use Rattle.array_reshaping_resync_laws.specs.array_reshaping_invariant_Moving.{IsMoving}

@@ -1,10 +1,10 @@
 -- The first refusal is the one that is answered: by what the members told before any device was touched.
 use Rattle.std.proofs.Common.{◌≡◌, ℕ, Option, Some, None, Result, Ok, Err, subst}
 use Rattle.std.specs.Prelude.{MatchOption, ⊤}
-use Rattle.array_specs.specs.raid_types_the_Fault.{Fault as AnyFault}
-use Rattle.array_specs.specs.raid_types_the_Fault_TheVariants.{Refused as IsRefusedWith, NoMemory}
-use Rattle.array_specs.specs.raid_types_the_Refusal.{Refusal}
-use Rattle.array_specs.specs.sb_safe_updates_First.{call_refusal}
+use Rattle.array_fixed_laws.specs.raid_types_the_Fault.{Fault as AnyFault}
+use Rattle.array_fixed_laws.specs.raid_types_the_Fault_TheVariants.{Refused as IsRefusedWith, NoMemory}
+use Rattle.array_fixed_laws.specs.raid_types_the_Refusal.{Refusal}
+use Rattle.array_fixed_laws.specs.sb_safe_updates_First.{call_refusal}
 use Rattle.array_reshaping_laws.specs.Refusing.{IsFirstFor}
 
 -- as much is visible

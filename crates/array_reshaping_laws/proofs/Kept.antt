@@ -5,14 +5,14 @@ use Rattle.std.specs.List.{list_any}
 use Rattle.std.proofs.lemmas.Bool.Decides.{nat_tests}
 use Rattle.std.proofs.lemmas.List.{take-append-le}
 use Rattle.std.proofs.lemmas.List.Folds.{list_any-append}
-use Rattle.array_specs.specs.raid_types_Shapes.{data_disks}
-use Rattle.array_specs.specs.raid_types_the_Span.{Span}
-use Rattle.array_specs.specs.raid_types_the_Phase.{Phase}
+use Rattle.array_fixed_laws.specs.raid_types_Shapes.{data_disks}
+use Rattle.array_fixed_laws.specs.raid_types_the_Span.{Span}
+use Rattle.array_fixed_laws.specs.raid_types_the_Phase.{Phase}
 use Rattle.reshape_window_backup.specs.bank_the_Operation.{Operation}
-use Rattle.array_specs.specs.raid_types_the_Who.{Who}
+use Rattle.array_fixed_laws.specs.raid_types_the_Who.{Who}
 use Rattle.array_reshaping_resync_laws.specs.history_append_Losing.{losses_of}
 use Rattle.array_reshaping_resync_laws.proofs.history_append_CallLaws.{losses-are, length-losses, limit-losses}
-use Rattle.array_specs.proofs.array_call_specs_NowLaws.{length-more}
+use Rattle.array_fixed_laws.proofs.array_call_specs_NowLaws.{length-more}
 use Rattle.reshape_window_backup.specs.bank_Given.{Given, NeverFalls}
 use Rattle.reshape_window_backup.specs.sb_codec_the_Sb.{Sb}
 use Rattle.reshape_window_backup.specs.reshape_geometry_Geometry.{unit, steps_of, stripes, beyond}
@@ -47,15 +47,15 @@ use Rattle.array_reshaping_resync_laws.specs.history_invariant_Safe.{world_in, T
 use Rattle.array_reshaping_resync_laws.proofs.history_invariant_Entered.{lost-taken}
 use Rattle.array_reshaping_resync_laws.proofs.history_invariant_Growing.{takes-grown}
 use Rattle.array_reshaping_resync_laws.proofs.history_invariant_Tests.{neither, none-before}
-use Rattle.array_specs.proofs.history_invariant_laws_Behind.{early-losses}
+use Rattle.array_fixed_laws.proofs.history_invariant_laws_Behind.{early-losses}
 use Rattle.array_reshaping_resync_laws.specs.reshape_progress_the_Course.{Course}
 use Rattle.array_reshaping_resync_laws.specs.array_reshaping_invariant_Moving.{IsMoving}
 use Rattle.array_reshaping_resync_laws.proofs.array_reshaping_invariant_Steps.{AreMissingSince, missing-moved}
 use Rattle.array_reshaping_resync_laws.specs.stripe_region_resync_Left.{resync_left}
 use Rattle.array_reshaping_resync_laws.proofs.stripe_region_resync_LeftLaws.{left-stays}
-use Rattle.array_specs.specs.Parts.{left_in}
-use Rattle.array_specs.proofs.VisibleLaws.{limit-kept}
-use Rattle.array_specs.proofs.Lengths.{IsLengthKept}
+use Rattle.array_fixed_laws.specs.array_specs_Parts.{left_in}
+use Rattle.array_fixed_laws.proofs.array_specs_VisibleLaws.{limit-kept}
+use Rattle.array_fixed_laws.proofs.array_specs_Lengths.{IsLengthKept}
 use Rattle.array_reshaping_laws.specs.Ready.{bytes_in, IsReady}
 
 -- ---- superblocks of the same reshape

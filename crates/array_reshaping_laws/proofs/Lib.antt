@@ -28,25 +28,25 @@ pub use Rattle.array_reshaping_resync_laws.proofs.array_reshaping_invariant_Refu
 pub use Rattle.array_reshaping_resync_laws.proofs.array_reshaping_invariant_Resting
 pub use Rattle.array_reshaping_resync_laws.proofs.array_reshaping_invariant_Steps
 pub use Rattle.array_reshaping_resync_laws.proofs.array_reshaping_invariant_Writing
-pub use Rattle.array_specs.proofs.Called as array_specs_Called
+pub use Rattle.array_fixed_laws.proofs.array_specs_Called
 pub use Rattle.array_reshaping_resync_laws.proofs.reshape_progress_resync_laws_Synced
 pub use Rattle.array_reshaping_resync_laws.proofs.array_reshaping_invariant_BegunCall
 pub use Rattle.array_reshaping_resync_laws.proofs.array_reshaping_invariant_BegunMembers
 pub use Rattle.array_reshaping_resync_laws.proofs.array_reshaping_invariant_Staying
-pub use Rattle.array_specs.proofs.array_reshaping_state_DueLaws
-pub use Rattle.array_specs.proofs.array_reshaping_state_ReshapeLaws
-pub use Rattle.array_specs.proofs.Lengths as array_specs_Lengths
-pub use Rattle.array_specs.proofs.Replies as array_specs_Replies
-pub use Rattle.array_specs.proofs.VisibleLaws as array_specs_VisibleLaws
-pub use Rattle.array_specs.proofs.array_call_specs_LossLaws
-pub use Rattle.array_specs.proofs.array_call_specs_ReadyLaws
-pub use Rattle.array_specs.proofs.array_call_specs_ReplyLaws
-pub use Rattle.array_specs.proofs.array_call_laws_AddLaws
-pub use Rattle.array_specs.proofs.array_call_laws_AddedKept
-pub use Rattle.array_specs.proofs.array_call_laws_AddedNumbers
-pub use Rattle.array_specs.proofs.array_call_laws_AddedLosses
-pub use Rattle.array_specs.proofs.array_call_laws_FailedLaws
-pub use Rattle.array_specs.proofs.array_call_laws_ReadLaws
+pub use Rattle.array_fixed_laws.proofs.array_reshaping_state_DueLaws
+pub use Rattle.array_fixed_laws.proofs.array_reshaping_state_ReshapeLaws
+pub use Rattle.array_fixed_laws.proofs.array_specs_Lengths
+pub use Rattle.array_fixed_laws.proofs.array_specs_Replies
+pub use Rattle.array_fixed_laws.proofs.array_specs_VisibleLaws
+pub use Rattle.array_fixed_laws.proofs.array_call_specs_LossLaws
+pub use Rattle.array_fixed_laws.proofs.array_call_specs_ReadyLaws
+pub use Rattle.array_fixed_laws.proofs.array_call_specs_ReplyLaws
+pub use Rattle.array_fixed_laws.proofs.array_call_laws_AddLaws
+pub use Rattle.array_fixed_laws.proofs.array_call_laws_AddedKept
+pub use Rattle.array_fixed_laws.proofs.array_call_laws_AddedNumbers
+pub use Rattle.array_fixed_laws.proofs.array_call_laws_AddedLosses
+pub use Rattle.array_fixed_laws.proofs.array_call_laws_FailedLaws
+pub use Rattle.array_fixed_laws.proofs.array_call_laws_ReadLaws
 pub use Rattle.array_reshaping_resync_laws.proofs.history_invariant_Records
 pub use Rattle.array_reshaping_resync_laws.proofs.crash_views_Stands
 pub use Rattle.array_reshaping_resync_laws.proofs.history_invariant_Entered
@@ -71,3 +71,63 @@ pub use Rattle.array_reshaping_resync_laws.proofs.history_append_BearerLaws
 pub use Rattle.array_reshaping_resync_laws.proofs.array_call_specs_LedgerLaws
 pub use Rattle.array_reshaping_resync_laws.proofs.array_call_specs_RecordLaws
 pub use Rattle.array_reshaping_resync_laws.proofs.array_call_specs_DegradedLaws
+pub use Rattle.array_fixed_laws.proofs.StepLaws as array_fixed_laws_StepLaws
+pub use Rattle.array_fixed_laws.proofs.AddLaws as array_fixed_laws_AddLaws
+pub use Rattle.array_fixed_laws.proofs.Closing as array_fixed_laws_Closing
+pub use Rattle.array_fixed_laws.proofs.Going as array_fixed_laws_Going
+pub use Rattle.array_fixed_laws.proofs.Kept as array_fixed_laws_Kept
+pub use Rattle.array_fixed_laws.proofs.Left as array_fixed_laws_Left
+pub use Rattle.array_fixed_laws.proofs.Plain as array_fixed_laws_Plain
+pub use Rattle.array_fixed_laws.proofs.PlainBehind as array_fixed_laws_PlainBehind
+pub use Rattle.array_fixed_laws.proofs.PlansKept as array_fixed_laws_PlansKept
+pub use Rattle.array_fixed_laws.proofs.array_fixed_invariant_Refusals
+pub use Rattle.array_fixed_laws.proofs.array_fixed_invariant_Resting
+pub use Rattle.array_fixed_laws.proofs.array_call_specs_KeptLaws
+pub use Rattle.array_fixed_laws.proofs.array_call_specs_NowLaws
+pub use Rattle.array_fixed_laws.proofs.array_call_specs_StepsLeft
+pub use Rattle.array_fixed_laws.proofs.history_invariant_laws_Behind
+pub use Rattle.array_fixed_laws.proofs.history_invariant_laws_Plans
+pub use Rattle.array_fixed_laws.proofs.crash_safety_laws_Kept
+pub use Rattle.array_fixed_laws.proofs.array_fixed_invariant_Flushing
+pub use Rattle.array_fixed_laws.proofs.ResyncLaws as array_fixed_laws_ResyncLaws
+pub use Rattle.array_fixed_laws.proofs.PlainSteps as array_fixed_laws_PlainSteps
+pub use Rattle.array_fixed_laws.proofs.array_call_laws_ResyncLaws
+pub use Rattle.array_fixed_laws.proofs.array_fixed_invariant_Resync
+pub use Rattle.array_fixed_laws.proofs.array_call_laws_RebuildGiven
+pub use Rattle.array_fixed_laws.proofs.array_fixed_invariant_Rebuilding
+pub use Rattle.array_fixed_laws.proofs.RebuildLaws as array_fixed_laws_RebuildLaws
+pub use Rattle.array_fixed_laws.proofs.array_fixed_invariant_Staying
+pub use Rattle.array_fixed_laws.proofs.array_call_laws_RebuildLaws
+pub use Rattle.array_fixed_laws.proofs.array_call_laws_RebuildEnded
+pub use Rattle.array_fixed_laws.proofs.array_fixed_invariant_Ending
+pub use Rattle.array_fixed_laws.proofs.crash_safety_laws_Risen
+pub use Rattle.array_fixed_laws.proofs.array_fixed_invariant_Stood
+pub use Rattle.array_fixed_laws.proofs.Reading as array_fixed_laws_Reading
+pub use Rattle.array_fixed_laws.proofs.array_fixed_invariant_Leaving
+pub use Rattle.array_fixed_laws.proofs.array_fixed_invariant_Reading
+pub use Rattle.array_fixed_laws.proofs.Asking as array_fixed_laws_Asking
+pub use Rattle.array_fixed_laws.proofs.PlainAdds as array_fixed_laws_PlainAdds
+pub use Rattle.array_fixed_laws.proofs.array_fixed_invariant_Writing
+pub use Rattle.array_fixed_laws.proofs.Writing as array_fixed_laws_Writing
+pub use Rattle.array_fixed_laws.proofs.array_fixed_invariant_Bridges
+pub use Rattle.array_fixed_laws.proofs.array_fixed_invariant_Quiet
+pub use Rattle.array_fixed_laws.proofs.array_fixed_invariant_Whole
+pub use Rattle.array_fixed_laws.proofs.reshape_begin_end_Made
+pub use Rattle.array_fixed_laws.proofs.reshape_sb_updates_BegunNewest
+pub use Rattle.array_fixed_laws.proofs.reshape_sb_updates_BegunPlan
+pub use Rattle.array_fixed_laws.proofs.reshape_sb_updates_EndedPlan
+pub use Rattle.array_fixed_laws.proofs.reshape_sb_updates_NewRoles
+pub use Rattle.array_fixed_laws.proofs.reshape_sb_updates_Taken
+pub use Rattle.array_reshaping_resync_laws.proofs.history_append_LosingLaws
+pub use Rattle.array_fixed_laws.proofs.raid_types_Tabulated
+pub use Rattle.array_fixed_laws.proofs.stripe_row_Tables
+pub use Rattle.array_fixed_laws.proofs.sb_specs_SlotSets
+pub use Rattle.array_reshaping_resync_laws.proofs.history_append_LeftLaws
+pub use Rattle.array_fixed_laws.proofs.history_invariant_laws_Quiet
+pub use Rattle.array_fixed_laws.proofs.Adopting as array_fixed_laws_Adopting
+pub use Rattle.array_fixed_laws.proofs.Limiting as array_fixed_laws_Limiting
+pub use Rattle.array_fixed_laws.proofs.AnswerLaws as array_fixed_laws_AnswerLaws
+pub use Rattle.array_fixed_laws.proofs.array_fixed_invariant_Failing
+pub use Rattle.array_fixed_laws.proofs.array_specs_TakenOut
+pub use Rattle.array_fixed_laws.proofs.Settled as array_fixed_laws_Settled
+pub use Rattle.array_fixed_laws.proofs.array_call_laws_SettledLaws

@@ -6,14 +6,14 @@ use Rattle.std.specs.List.{list_any}
 use Rattle.std.proofs.lemmas.Bool.{cases_lt}
 use Rattle.std.proofs.lemmas.List.{length-take-le}
 use Rattle.std.proofs.lemmas.List.Sums.{fold-append}
-use Rattle.array_specs.specs.raid_types_Sectors.{Sector, sectors_of}
-use Rattle.array_specs.specs.raid_types_Shapes.{tolerance, tolerance_of}
-use Rattle.array_specs.specs.raid_types_the_Refusal.{Refusal}
-use Rattle.array_specs.specs.raid_types_the_Refusal_TheVariants.{PastEnd}
-use Rattle.array_specs.specs.raid_types_the_Who.{Who}
-use Rattle.array_specs.specs.raid_types_the_Shape.{Shape}
-use Rattle.array_specs.specs.raid_types_the_Span.{Span}
-use Rattle.array_specs.proofs.raid_types_SectorLaws.{length-sectors_of}
+use Rattle.array_fixed_laws.specs.raid_types_Sectors.{Sector, sectors_of}
+use Rattle.array_fixed_laws.specs.raid_types_Shapes.{tolerance, tolerance_of}
+use Rattle.array_fixed_laws.specs.raid_types_the_Refusal.{Refusal}
+use Rattle.array_fixed_laws.specs.raid_types_the_Refusal_TheVariants.{PastEnd}
+use Rattle.array_fixed_laws.specs.raid_types_the_Who.{Who}
+use Rattle.array_fixed_laws.specs.raid_types_the_Shape.{Shape}
+use Rattle.array_fixed_laws.specs.raid_types_the_Span.{Span}
+use Rattle.array_fixed_laws.proofs.raid_types_SectorLaws.{length-sectors_of}
 use Rattle.reshape_window_backup.specs.bank_the_Operation.{Operation}
 use Rattle.reshape_window_backup.specs.bank_Given.{Given}
 use Rattle.reshape_window_backup.specs.bank_Tape.{Contents, disk}
@@ -45,14 +45,14 @@ use Rattle.array_reshaping_resync_laws.specs.array_members_Lacking.{DoesWithout,
 use Rattle.array_reshaping_resync_laws.specs.array_members_Moving.{Grows, IsMoved}
 use Rattle.array_reshaping_resync_laws.proofs.array_members_Fit.{list-alike}
 use Rattle.array_reshaping_resync_laws.proofs.array_members_LackingLists.{row-sector}
-use Rattle.array_specs.specs.sb_safe_updates_Unused.{IsUnusedKept}
+use Rattle.array_fixed_laws.specs.sb_safe_updates_Unused.{IsUnusedKept}
 use Rattle.array_reshaping_resync_laws.specs.history_append_Losing.{losses_of}
 use Rattle.array_reshaping_resync_laws.proofs.history_append_CallLaws.{losses-are, limit-losses, length-losses, values-losses}
 use Rattle.array_reshaping_resync_laws.proofs.history_append_LeftLaws.{left-behind, left-more}
 use Rattle.array_reshaping_resync_laws.proofs.history_append_LosingLaws.{entries-both}
-use Rattle.array_specs.specs.array_call_specs_Calls.{IsRefusedFor, IsReplied}
-use Rattle.array_specs.proofs.array_call_specs_NowLaws.{sectors_of-at}
-use Rattle.array_specs.proofs.array_call_specs_ReplyLaws.{IsOfMissing, unread-of}
+use Rattle.array_fixed_laws.specs.array_call_specs_Calls.{IsRefusedFor, IsReplied}
+use Rattle.array_fixed_laws.proofs.array_call_specs_NowLaws.{sectors_of-at}
+use Rattle.array_fixed_laws.proofs.array_call_specs_ReplyLaws.{IsOfMissing, unread-of}
 use Rattle.array_reshaping_resync_laws.specs.stripe_region_read_Stretches.{ListStandsIn, RowsStandIn}
 use Rattle.array_reshaping_resync_laws.proofs.stripe_region_write_Together.{shape-force}
 use Rattle.array_reshaping_resync_laws.specs.reshape_window_rows_Copies.{HasWindow, IsRoomFor}
@@ -63,9 +63,9 @@ use Rattle.array_reshaping_resync_laws.proofs.history_invariant_Entered.{adds_on
 use Rattle.array_reshaping_resync_laws.proofs.history_invariant_Growing.{opening-grown}
 use Rattle.array_reshaping_resync_laws.proofs.history_invariant_Ledgers.{gone-any}
 use Rattle.array_reshaping_resync_laws.proofs.history_invariant_Tests.{none-before}
-use Rattle.array_specs.specs.history_invariant_laws_Reliable.{IsReliable, AreToldGone}
-use Rattle.array_specs.proofs.history_invariant_laws_Behind.{IsAmong, and-true, early-losses, legal-losses}
-use Rattle.array_specs.proofs.history_invariant_laws_Quiet.{IsQuiet, LeavesList, IsLeftBehind, quiet-leaves, quiet-now, last-left}
+use Rattle.array_fixed_laws.specs.history_invariant_laws_Reliable.{IsReliable, AreToldGone}
+use Rattle.array_fixed_laws.proofs.history_invariant_laws_Behind.{IsAmong, and-true, early-losses, legal-losses}
+use Rattle.array_fixed_laws.proofs.history_invariant_laws_Quiet.{IsQuiet, LeavesList, IsLeftBehind, quiet-leaves, quiet-now, last-left}
 use Rattle.array_reshaping_resync_laws.specs.reshape_progress_the_Course.{Course}
 use Rattle.array_reshaping_resync_laws.specs.reshape_request_the_Window.{Window}
 use Rattle.array_reshaping_resync_laws.specs.reshape_request_the_Window_TheVariants.{Closed, Entered, Unsure}
@@ -82,11 +82,11 @@ use Rattle.array_reshaping_resync_laws.proofs.array_reshaping_invariant_Quiet.{s
 use Rattle.array_reshaping_resync_laws.proofs.array_reshaping_invariant_Refusals.{quiet-refusal, lacking-right}
 use Rattle.array_reshaping_resync_laws.proofs.array_reshaping_invariant_Staying.{course-moved, stays-moves}
 use Rattle.array_reshaping_resync_laws.proofs.array_reshaping_invariant_Steps.{AreMissingSince, missing-moved}
-use Rattle.array_specs.specs.array_reshaping_state_First.{IsUnreadAround}
-use Rattle.array_specs.proofs.array_reshaping_state_ReshapeLaws.{window-reach}
-use Rattle.array_specs.specs.Parts.{visible_size}
-use Rattle.array_specs.proofs.VisibleLaws.{visible-is, visible-within}
-use Rattle.array_specs.proofs.Replies.{refused_reply, read_kind}
+use Rattle.array_fixed_laws.specs.array_reshaping_state_First.{IsUnreadAround}
+use Rattle.array_fixed_laws.proofs.array_reshaping_state_ReshapeLaws.{window-reach}
+use Rattle.array_fixed_laws.specs.array_specs_Parts.{visible_size}
+use Rattle.array_fixed_laws.proofs.array_specs_VisibleLaws.{visible-is, visible-within}
+use Rattle.array_fixed_laws.proofs.array_specs_Replies.{refused_reply, read_kind}
 use Rattle.array_reshaping_laws.specs.Ready.{bytes_in}
 use Rattle.array_reshaping_laws.proofs.Relied.{pending-at, pending-behind, unsynced-right, sector-role}
 

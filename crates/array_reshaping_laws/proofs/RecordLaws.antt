@@ -1,10 +1,10 @@
 -- A window is recorded, from what `record` of `reshape_window_steps` says of it: what is kept, done or refused.
 use Rattle.std.proofs.Common.{◌≡◌, ◌≢◌, inr, ℕ, ◌+◌, ◌<◌, Bool, true, None, Option, Some, List, [], ◌∷◌, ◌++◌, length, sym, ◌∙◌, ap, subst, arith}
 use Rattle.std.specs.Prelude.{MatchOption}
-use Rattle.array_specs.specs.raid_types_Sectors.{Sector, zero_sector}
-use Rattle.array_specs.specs.raid_types_the_Refusal.{Refusal}
-use Rattle.array_specs.specs.raid_types_the_Who.{Who}
-use Rattle.array_specs.specs.raid_types_the_Span.{Span}
+use Rattle.array_fixed_laws.specs.raid_types_Sectors.{Sector, zero_sector}
+use Rattle.array_fixed_laws.specs.raid_types_the_Refusal.{Refusal}
+use Rattle.array_fixed_laws.specs.raid_types_the_Who.{Who}
+use Rattle.array_fixed_laws.specs.raid_types_the_Span.{Span}
 use Rattle.reshape_window_backup.specs.bank_the_Operation.{Operation}
 use Rattle.reshape_window_backup.specs.bank_Given.{Given}
 use Rattle.reshape_window_backup.specs.bank_Tape.{disk}
@@ -31,7 +31,7 @@ use Rattle.array_reshaping_resync_laws.specs.array_members_Placed.{IsPlaced}
 use Rattle.array_reshaping_resync_laws.specs.array_members_Moving.{Grows, IsMoved}
 use Rattle.array_reshaping_resync_laws.specs.array_members_Lacking.{AreTooMany, AreLostSince, HaveFailedSince}
 use Rattle.array_reshaping_resync_laws.proofs.array_members_LackingLaws.{AreVacant, AreNewlyVacant, lost-since}
-use Rattle.array_specs.specs.sb_safe_updates_Unused.{IsUnusedKept}
+use Rattle.array_fixed_laws.specs.sb_safe_updates_Unused.{IsUnusedKept}
 use Rattle.array_reshaping_resync_laws.specs.history_append_Losing.{losses_of}
 use Rattle.array_reshaping_resync_laws.specs.reshape_window_steps_Recording.{IsCopiedWindow}
 use Rattle.array_reshaping_resync_laws.proofs.reshape_window_steps_PastLaws.{past-placed}
@@ -47,12 +47,12 @@ use Rattle.array_reshaping_resync_laws.specs.reshape_progress_Laws.{closed, ente
 use Rattle.array_reshaping_resync_laws.specs.stripe_region_resync_Left.{resync_left}
 use Rattle.array_reshaping_resync_laws.proofs.stripe_region_resync_LeftLaws.{records-leave}
 use Rattle.array_reshaping_resync_laws.proofs.reshape_progress_resync_laws_Synced.{mended-courses-move}
-use Rattle.array_specs.proofs.array_reshaping_state_LeftLaws.{plans-counted, some-left}
+use Rattle.array_fixed_laws.proofs.array_reshaping_state_LeftLaws.{plans-counted, some-left}
 use Rattle.array_reshaping_resync_laws.specs.array_reshaping_invariant_Moving.{IsMoving}
 use Rattle.array_reshaping_resync_laws.proofs.array_reshaping_invariant_MoreSteps.{recorded-moves}
 use Rattle.array_reshaping_resync_laws.proofs.array_reshaping_invariant_Staying.{refused-moves}
 use Rattle.array_reshaping_resync_laws.proofs.array_reshaping_invariant_Steps.{AreMissingSince, missing-since}
-use Rattle.array_specs.proofs.Called.{not_254, risen-told}
+use Rattle.array_fixed_laws.proofs.array_specs_Called.{not_254, risen-told}
 use Rattle.array_reshaping_laws.proofs.Kept.{AreSameShapes, left_by, left-moved}
 
 -- ---- members whose position moved

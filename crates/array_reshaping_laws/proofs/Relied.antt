@@ -1,9 +1,9 @@
 -- Where parity isn't relied on in each row, a resync is pending, and a refusal that tells so is right by the history.
 use Rattle.std.proofs.Common.{◌≡◌, ℕ, ◌<◌, ◌≤◌, Bool, true, false, Option, List, [], ◌++◌, sym, ◌∙◌, subst, arith, append-nil}
 use Rattle.std.specs.List.{list_any}
-use Rattle.array_specs.specs.raid_types_the_Refusal.{Refusal}
-use Rattle.array_specs.specs.raid_types_the_Refusal_TheVariants.{NotResynced}
-use Rattle.array_specs.specs.raid_types_the_Who.{Who}
+use Rattle.array_fixed_laws.specs.raid_types_the_Refusal.{Refusal}
+use Rattle.array_fixed_laws.specs.raid_types_the_Refusal_TheVariants.{NotResynced}
+use Rattle.array_fixed_laws.specs.raid_types_the_Who.{Who}
 use Rattle.reshape_window_backup.specs.bank_the_Operation.{Operation}
 use Rattle.reshape_window_backup.specs.bank_Given.{Given}
 use Rattle.reshape_window_backup.specs.sb_codec_the_Sb.{Sb}
@@ -25,7 +25,7 @@ use Rattle.array_reshaping_resync_laws.specs.history_append_Losing.{losses_of}
 use Rattle.array_reshaping_resync_laws.proofs.history_append_CallLaws.{losses-are, ends-losses}
 use Rattle.array_reshaping_resync_laws.specs.history_invariant_Safe.{world_in}
 use Rattle.array_reshaping_resync_laws.proofs.history_invariant_Growing.{unsynced-grown}
-use Rattle.array_specs.specs.history_invariant_laws_Reliable.{AreToldGone}
+use Rattle.array_fixed_laws.specs.history_invariant_laws_Reliable.{AreToldGone}
 use Rattle.array_reshaping_resync_laws.specs.stripe_region_read_Stretches.{relied_rows}
 use Rattle.array_reshaping_resync_laws.proofs.stripe_region_write_Together.{shape-force}
 use Rattle.array_reshaping_resync_laws.specs.stripe_region_resync_Resyncs.{relied_sector}

@@ -2,12 +2,12 @@
 use Rattle.std.proofs.Common.{◌≡◌, ◌≢◌, inl, inr, ℕ, ◌+◌, ◌-◌, ◌/◌, ◌^◌, ◌<◌, ◌≤◌, Bool, true, false, Option, Some, None, unwrap_or, List, [], ◌∷◌, ◌++◌, length, refl, sym, ◌∙◌, ap, subst, arith}
 use Rattle.std.specs.Prelude.{IsSome, MatchOption}
 use Rattle.std.proofs.Math.Nat.{div-le_self}
-use Rattle.array_specs.specs.raid_types_Sectors.{Sector}
-use Rattle.array_specs.specs.raid_types_Shapes.{stripe_sectors}
-use Rattle.array_specs.specs.raid_types_the_Refusal.{Refusal}
-use Rattle.array_specs.specs.raid_types_the_Who.{Who}
-use Rattle.array_specs.specs.raid_types_the_Shape.{Shape}
-use Rattle.array_specs.specs.raid_types_the_Span.{Span}
+use Rattle.array_fixed_laws.specs.raid_types_Sectors.{Sector}
+use Rattle.array_fixed_laws.specs.raid_types_Shapes.{stripe_sectors}
+use Rattle.array_fixed_laws.specs.raid_types_the_Refusal.{Refusal}
+use Rattle.array_fixed_laws.specs.raid_types_the_Who.{Who}
+use Rattle.array_fixed_laws.specs.raid_types_the_Shape.{Shape}
+use Rattle.array_fixed_laws.specs.raid_types_the_Span.{Span}
 use Rattle.reshape_window_backup.specs.bank_the_Operation.{Operation}
 use Rattle.reshape_window_backup.specs.bank_Given.{Given}
 use Rattle.reshape_window_backup.specs.bank_Tape.{disk}
@@ -35,12 +35,12 @@ use Rattle.array_reshaping_resync_laws.specs.array_members_Lacking.{DoesWithout,
 use Rattle.array_reshaping_resync_laws.specs.array_members_Numbers.{bears}
 use Rattle.array_reshaping_resync_laws.proofs.array_members_Fit.{fit-short}
 use Rattle.array_reshaping_resync_laws.proofs.array_members_LackingLaws.{never-both}
-use Rattle.array_specs.specs.sb_safe_updates_First.{write_refusal}
-use Rattle.array_specs.specs.sb_safe_updates_Unused.{IsUnusedKept}
-use Rattle.array_specs.proofs.sb_safe_updates_RefusingLaws.{write-none}
+use Rattle.array_fixed_laws.specs.sb_safe_updates_First.{write_refusal}
+use Rattle.array_fixed_laws.specs.sb_safe_updates_Unused.{IsUnusedKept}
+use Rattle.array_fixed_laws.proofs.sb_safe_updates_RefusingLaws.{write-none}
 use Rattle.array_reshaping_resync_laws.specs.history_append_Losing.{losses_of}
-use Rattle.array_specs.specs.array_call_specs_Calls.{one_more, IsRefusedFor}
-use Rattle.array_specs.proofs.array_call_specs_ReplyLaws.{IsOfMissing, too-many-of, unwritten-of, refused-for}
+use Rattle.array_fixed_laws.specs.array_call_specs_Calls.{one_more, IsRefusedFor}
+use Rattle.array_fixed_laws.proofs.array_call_specs_ReplyLaws.{IsOfMissing, too-many-of, unwritten-of, refused-for}
 use Rattle.array_reshaping_resync_laws.specs.reshape_request_the_Window.{Window}
 use Rattle.array_reshaping_resync_laws.specs.reshape_request_the_Window_TheVariants.{Closed, Entered, Unsure}
 use Rattle.array_reshaping_resync_laws.specs.reshape_request_the_PhasesLeft.{PhasesLeft}
@@ -56,15 +56,15 @@ use Rattle.array_reshaping_resync_laws.specs.history_invariant_Safe.{world_in}
 use Rattle.array_reshaping_resync_laws.specs.reshape_progress_the_Course.{Course}
 use Rattle.array_reshaping_resync_laws.specs.reshape_progress_Course.{IsCourseOf, hidden_in}
 use Rattle.array_reshaping_resync_laws.specs.reshape_progress_resync_laws_Synced.{IsAside}
-use Rattle.array_specs.specs.array_reshaping_state_Due.{open_in}
-use Rattle.array_specs.proofs.array_reshaping_state_LeftLaws.{plans-counted, some-left}
+use Rattle.array_fixed_laws.specs.array_reshaping_state_Due.{open_in}
+use Rattle.array_fixed_laws.proofs.array_reshaping_state_LeftLaws.{plans-counted, some-left}
 use Rattle.array_reshaping_resync_laws.specs.array_reshaping_invariant_Moving.{IsMoving}
 use Rattle.array_reshaping_resync_laws.proofs.array_reshaping_invariant_Flushing.{AreFlushed, AreSettled}
 use Rattle.array_reshaping_resync_laws.proofs.array_reshaping_invariant_Staying.{course-moved}
 use Rattle.array_reshaping_resync_laws.proofs.array_reshaping_invariant_Steps.{missing-since}
 use Rattle.array_reshaping_resync_laws.proofs.Resync.{IsResyncingMoving, AreRowsSynced, mended-moves, unmended-moves, resynced-moves, unresynced-moves}
-use Rattle.array_specs.specs.Parts.{RunningParts, left_in}
-use Rattle.array_specs.proofs.Called.{not_254, risen-told}
+use Rattle.array_fixed_laws.specs.array_specs_Parts.{RunningParts, left_in}
+use Rattle.array_fixed_laws.proofs.array_specs_Called.{not_254, risen-told}
 use Rattle.array_reshaping_laws.specs.Ready.{IsReady}
 use Rattle.array_reshaping_laws.specs.Mending.{IsResyncDue, IsResyncEndDue, AreRowsGood}
 use Rattle.array_reshaping_laws.proofs.Kept.{left-moved}

@@ -2,7 +2,7 @@
 use Rattle.std.proofs.Common.{◌≡◌, inl, inr, ℕ, Option, sym, ap, subst}
 use Rattle.array_reshaping_resync_laws.specs.history_the_Event.{Event}
 use Rattle.array_reshaping_resync_laws.specs.history_Flat.{length_after, limit_after}
-use Rattle.array_specs.specs.array_call_specs_Calls.{IsSettling}
+use Rattle.array_fixed_laws.specs.array_call_specs_Calls.{IsSettling}
 use Rattle.array_reshaping_resync_laws.proofs.array_reshaping_invariant_Settling as law
 
 -- a flush or a stop settles

@@ -1,6 +1,6 @@
 -- A slot that is taken out of an array in a reshape, and the naming of what is missing then.
 use Rattle.std.proofs.Common.{◌≡◌, ◌⊎◌, inl, inr, ℕ, ◌<◌, ◌==◌, true, Some, List, sym, ◌∙◌}
-use Rattle.array_specs.specs.raid_types_Shapes.{has_slot}
+use Rattle.array_fixed_laws.specs.raid_types_Shapes.{has_slot}
 use Rattle.reshape_window_backup.specs.bank_the_Operation.{Operation}
 use Rattle.reshape_window_backup.specs.bank_Given.{Given}
 use Rattle.reshape_window_backup.specs.bank_Tape.{disk}
@@ -19,10 +19,10 @@ use Rattle.array_reshaping_resync_laws.proofs.array_members_Fit.{count-alike}
 use Rattle.array_reshaping_resync_laws.proofs.array_members_HeldRows.{missing-before, vacant-missing}
 use Rattle.array_reshaping_resync_laws.proofs.array_members_LackingLaws.{AreVacant, AreNewlyVacant, lost-since}
 use Rattle.array_reshaping_resync_laws.proofs.array_members_MovedLaws.{moved-then}
-use Rattle.array_specs.proofs.sb_safe_updates_Unused.{unused-moved, rest-unused}
-use Rattle.array_specs.proofs.array_call_specs_KeptLaws.{NamesSafe}
-use Rattle.array_specs.proofs.array_call_laws_FailedLaws.{placed-out, moved-out, out-only, clean-out, rise-out, named-out}
-use Rattle.array_specs.proofs.history_invariant_laws_Failed.{IsFailedOrAmong}
+use Rattle.array_fixed_laws.proofs.sb_safe_updates_Unused.{unused-moved, rest-unused}
+use Rattle.array_fixed_laws.proofs.array_call_specs_KeptLaws.{NamesSafe}
+use Rattle.array_fixed_laws.proofs.array_call_laws_FailedLaws.{placed-out, moved-out, out-only, clean-out, rise-out, named-out}
+use Rattle.array_fixed_laws.proofs.history_invariant_laws_Failed.{IsFailedOrAmong}
 use Rattle.array_reshaping_resync_laws.proofs.array_reshaping_invariant_Failing.{IsTakenOut}
 
 module _ (given : Given) (old mid new : Members) (lost slot role : ℕ) (was : IsPlaced given old) (unlost : AreUnlost old) (is : mid ≡ members_without lost old) (alone : (s : ℕ) → has_slot lost s ≡ (slot == s))

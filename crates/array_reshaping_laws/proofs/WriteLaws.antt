@@ -3,13 +3,13 @@ use Rattle.std.proofs.Common.{◌≡◌, ◌≢◌, ◌⊎◌, inl, inr, ℕ, �
 use Rattle.std.specs.Prelude.{MatchOption, OnOk}
 use Rattle.std.proofs.lemmas.Bool.{cases_lt}
 use Rattle.std.proofs.lemmas.List.Elements.{All-append, All-weaker}
-use Rattle.array_specs.specs.raid_types_Sectors.{Sector, sectors_of}
-use Rattle.array_specs.specs.raid_types_the_Fault.{Fault as AnyFault}
-use Rattle.array_specs.specs.raid_types_the_Fault_TheVariants.{Refused as IsRefusedWith, NoMemory}
-use Rattle.array_specs.specs.raid_types_the_Refusal.{Refusal}
-use Rattle.array_specs.specs.raid_types_the_Refusal_TheVariants.{PastEnd}
-use Rattle.array_specs.specs.raid_types_the_Who.{Who}
-use Rattle.array_specs.specs.raid_types_the_Span.{Span}
+use Rattle.array_fixed_laws.specs.raid_types_Sectors.{Sector, sectors_of}
+use Rattle.array_fixed_laws.specs.raid_types_the_Fault.{Fault as AnyFault}
+use Rattle.array_fixed_laws.specs.raid_types_the_Fault_TheVariants.{Refused as IsRefusedWith, NoMemory}
+use Rattle.array_fixed_laws.specs.raid_types_the_Refusal.{Refusal}
+use Rattle.array_fixed_laws.specs.raid_types_the_Refusal_TheVariants.{PastEnd}
+use Rattle.array_fixed_laws.specs.raid_types_the_Who.{Who}
+use Rattle.array_fixed_laws.specs.raid_types_the_Span.{Span}
 use Rattle.reshape_window_backup.specs.bank_the_Operation.{Operation}
 use Rattle.reshape_window_backup.specs.bank_Given.{Given, NeverFalls}
 use Rattle.reshape_window_backup.proofs.bank_Causes.{faulted_longer}
@@ -41,8 +41,8 @@ use Rattle.array_reshaping_resync_laws.proofs.array_members_Fit.{force-disks}
 use Rattle.array_reshaping_resync_laws.proofs.array_members_LackingLaws.{AreVacant, AreNewlyVacant, lost-since, shape-without}
 use Rattle.array_reshaping_resync_laws.proofs.array_members_MovedLaws.{grows-then}
 use Rattle.array_reshaping_resync_laws.specs.history_append_Losing.{losses_of, failure_events}
-use Rattle.array_specs.specs.array_call_specs_Calls.{IsRoleLossBy, IsLossBy, WasSpare, AreLossesOf, AreSparesFewer, IsBehind, IsRefusedFor, IsCausedBy}
-use Rattle.array_specs.proofs.array_call_specs_ReplyLaws.{IsOfMissing, unwritten-of}
+use Rattle.array_fixed_laws.specs.array_call_specs_Calls.{IsRoleLossBy, IsLossBy, WasSpare, AreLossesOf, AreSparesFewer, IsBehind, IsRefusedFor, IsCausedBy}
+use Rattle.array_fixed_laws.proofs.array_call_specs_ReplyLaws.{IsOfMissing, unwritten-of}
 use Rattle.array_reshaping_resync_laws.specs.stripe_region_write_Runs.{IsListUnwritten}
 use Rattle.array_reshaping_resync_laws.proofs.stripe_region_write_Together.{shape-force}
 use Rattle.array_reshaping_resync_laws.specs.reshape_request_the_Window.{Window}
@@ -52,8 +52,8 @@ use Rattle.array_reshaping_resync_laws.specs.reshape_request_Left.{stripes_in, p
 use Rattle.array_reshaping_resync_laws.proofs.reshape_request_LeftLaws.{finishing}
 use Rattle.array_reshaping_resync_laws.specs.history_invariant_Recorded.{IsCallGoing}
 use Rattle.array_reshaping_resync_laws.specs.history_invariant_Safe.{world_in, TakesNone}
-use Rattle.array_specs.proofs.history_invariant_laws_Behind.{early-losses}
-use Rattle.array_specs.specs.history_invariant_laws_Reliable.{IsReliable}
+use Rattle.array_fixed_laws.proofs.history_invariant_laws_Behind.{early-losses}
+use Rattle.array_fixed_laws.specs.history_invariant_laws_Reliable.{IsReliable}
 use Rattle.array_reshaping_resync_laws.specs.reshape_progress_the_Course.{Course}
 use Rattle.array_reshaping_resync_laws.specs.reshape_progress_Course.{IsWindowOf, IsCourseOf, span_in}
 use Rattle.array_reshaping_resync_laws.specs.reshape_progress_Laws.{closed, entered}
@@ -62,7 +62,7 @@ use Rattle.array_reshaping_resync_laws.specs.stripe_region_resync_Resyncs.{relie
 use Rattle.array_reshaping_resync_laws.proofs.stripe_region_resync_LeftLaws.{records-leave}
 use Rattle.array_reshaping_resync_laws.proofs.stripe_region_resync_ReliedLaws.{relied-reaches}
 use Rattle.array_reshaping_resync_laws.specs.reshape_progress_resync_laws_Synced.{IsUnsynced}
-use Rattle.array_specs.specs.array_reshaping_state_Due.{open_in, unsure_in}
+use Rattle.array_fixed_laws.specs.array_reshaping_state_Due.{open_in, unsure_in}
 use Rattle.array_reshaping_resync_laws.specs.array_reshaping_invariant_Moving.{IsWindowStanding, IsMoving}
 use Rattle.array_reshaping_resync_laws.proofs.array_reshaping_invariant_CopiedWindow.{window-stands}
 use Rattle.array_reshaping_resync_laws.proofs.array_reshaping_invariant_NoneLeft.{shape-left}
@@ -70,13 +70,13 @@ use Rattle.array_reshaping_resync_laws.proofs.array_reshaping_invariant_Finished
 use Rattle.array_reshaping_resync_laws.proofs.array_reshaping_invariant_Refusals.{lacking-right}
 use Rattle.array_reshaping_resync_laws.proofs.array_reshaping_invariant_Steps.{AreMissingSince, missing-since, missing-moved}
 use Rattle.array_reshaping_resync_laws.proofs.array_reshaping_invariant_Writing.{ArePut, AreWritten, AreUnwritten, written-moves, unwritten-moves}
-use Rattle.array_specs.specs.Calls.{IsCalled, IsStepTaken}
-use Rattle.array_specs.specs.Parts.{RunningParts}
-use Rattle.array_specs.specs.Parts.{visible_size}
-use Rattle.array_specs.proofs.VisibleLaws.{visible-is, visible-within}
+use Rattle.array_fixed_laws.specs.array_specs_Calls.{IsCalled, IsStepTaken}
+use Rattle.array_fixed_laws.specs.array_specs_Parts.{RunningParts}
+use Rattle.array_fixed_laws.specs.array_specs_Parts.{visible_size}
+use Rattle.array_fixed_laws.proofs.array_specs_VisibleLaws.{visible-is, visible-within}
 use Rattle.array_reshaping_laws.specs.Ready.{bytes_in, IsReady}
 use Rattle.array_reshaping_laws.specs.Writing.{IsWindowOpen, steps_in, TouchesWindow, IsWriteLacked, IsPutEntered, IsWriteEntered}
-use Rattle.array_specs.proofs.Called.{not_254}
+use Rattle.array_fixed_laws.proofs.array_specs_Called.{not_254}
 use Rattle.array_reshaping_laws.proofs.Kept.{behind-whole, takes-lost, long-same, left_by, left-moved}
 use Rattle.array_reshaping_laws.proofs.Relied.{pending-at, unsynced-right}
 use Rattle.array_reshaping_laws.proofs.RecordLaws.{shapes-past, past-of, since-past, record-some, closed-bare, moved-none, moved-if}

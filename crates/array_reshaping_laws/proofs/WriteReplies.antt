@@ -5,12 +5,12 @@ use Rattle.std.specs.List.{All}
 use Rattle.std.proofs.lemmas.List.{reverse-append}
 use Rattle.std.proofs.lemmas.List.Elements.{All-nil, All-cons, All-append}
 use Rattle.std.proofs.lemmas.List.Sums.{fold-append}
-use Rattle.array_specs.specs.raid_types_Sectors.{Sector}
-use Rattle.array_specs.specs.raid_types_the_Fault.{Fault as AnyFault}
-use Rattle.array_specs.specs.raid_types_the_Fault_TheVariants.{Refused as IsRefusedWith, NoMemory}
-use Rattle.array_specs.specs.raid_types_the_Refusal.{Refusal}
-use Rattle.array_specs.specs.raid_types_the_Refusal_TheVariants.{PastEnd}
-use Rattle.array_specs.specs.raid_types_the_Who.{Who}
+use Rattle.array_fixed_laws.specs.raid_types_Sectors.{Sector}
+use Rattle.array_fixed_laws.specs.raid_types_the_Fault.{Fault as AnyFault}
+use Rattle.array_fixed_laws.specs.raid_types_the_Fault_TheVariants.{Refused as IsRefusedWith, NoMemory}
+use Rattle.array_fixed_laws.specs.raid_types_the_Refusal.{Refusal}
+use Rattle.array_fixed_laws.specs.raid_types_the_Refusal_TheVariants.{PastEnd}
+use Rattle.array_fixed_laws.specs.raid_types_the_Who.{Who}
 use Rattle.array_reshaping_resync_laws.specs.sb_specs_the_Members.{Members}
 use Rattle.array_reshaping_resync_laws.specs.history_the_Entry.{Entry}
 use Rattle.array_reshaping_resync_laws.specs.history_the_Event.{Event}
@@ -26,16 +26,16 @@ use Rattle.array_reshaping_resync_laws.specs.history_Plain.{entries_of}
 use Rattle.array_reshaping_resync_laws.specs.history_append_Losing.{losses_of, failure_events}
 use Rattle.array_reshaping_resync_laws.proofs.history_append_CallLaws.{AreLossEvents, losses-are, length-losses, limit-losses, torn-losses, torn-both, torn-reverse}
 use Rattle.array_reshaping_resync_laws.proofs.history_append_LosingLaws.{entries-both}
-use Rattle.array_specs.specs.array_call_specs_Calls.{StandsInside, IsRefusedFor, IsCausedBy}
-use Rattle.array_specs.proofs.array_call_specs_NowLaws.{length-more}
-use Rattle.array_specs.proofs.array_call_specs_ReplyLaws.{IsOfMissing, none_before, too-many-of, torn_before}
+use Rattle.array_fixed_laws.specs.array_call_specs_Calls.{StandsInside, IsRefusedFor, IsCausedBy}
+use Rattle.array_fixed_laws.proofs.array_call_specs_NowLaws.{length-more}
+use Rattle.array_fixed_laws.proofs.array_call_specs_ReplyLaws.{IsOfMissing, none_before, too-many-of, torn_before}
 use Rattle.array_reshaping_resync_laws.specs.reshape_request_the_Window.{Window}
 use Rattle.array_reshaping_resync_laws.specs.history_invariant_Recorded.{entry_of}
-use Rattle.array_specs.specs.array_reshaping_state_Due.{open_in}
+use Rattle.array_fixed_laws.specs.array_reshaping_state_Due.{open_in}
 use Rattle.array_reshaping_laws.specs.Writing.{IsWriteLacked, IsFinishedFirst, IsWriteEntered, IsRepliedBehind, IsWriteAnswered}
-use Rattle.array_specs.specs.array_reshaping_state_Left.{visible_by}
-use Rattle.array_specs.proofs.VisibleLaws.{visible-is, limit-kept}
-use Rattle.array_specs.proofs.Replies.{write_kind}
+use Rattle.array_fixed_laws.specs.array_reshaping_state_Left.{visible_by}
+use Rattle.array_fixed_laws.proofs.array_specs_VisibleLaws.{visible-is, limit-kept}
+use Rattle.array_fixed_laws.proofs.array_specs_Replies.{write_kind}
 use Rattle.array_reshaping_laws.proofs.WriteLaws.{torn-missing}
 
 -- ---- the entries of a call before its reply

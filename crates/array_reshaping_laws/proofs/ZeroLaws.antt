@@ -1,10 +1,10 @@
 -- A stripe behind the list is zeroed, from what `zero` of `reshape_window_steps` says of it: what is kept, done or refused.
 use Rattle.std.proofs.Common.{◌≡◌, ◌≢◌, inr, ℕ, ◌+◌, ◌<◌, Bool, true, Option, None, List, [], ◌∷◌, ◌++◌, length, sym, ◌∙◌, ap, subst, arith}
 use Rattle.std.specs.Prelude.{⊤}
-use Rattle.array_specs.specs.raid_types_Sectors.{Sector}
-use Rattle.array_specs.specs.raid_types_the_Refusal.{Refusal}
-use Rattle.array_specs.specs.raid_types_the_Who.{Who}
-use Rattle.array_specs.specs.raid_types_the_Shape.{Shape}
+use Rattle.array_fixed_laws.specs.raid_types_Sectors.{Sector}
+use Rattle.array_fixed_laws.specs.raid_types_the_Refusal.{Refusal}
+use Rattle.array_fixed_laws.specs.raid_types_the_Who.{Who}
+use Rattle.array_fixed_laws.specs.raid_types_the_Shape.{Shape}
 use Rattle.reshape_window_backup.specs.bank_the_Operation.{Operation}
 use Rattle.reshape_window_backup.specs.bank_Given.{Given}
 use Rattle.reshape_window_backup.specs.bank_Tape.{disk}
@@ -25,7 +25,7 @@ use Rattle.array_reshaping_resync_laws.specs.crash_safety_laws_Steady.{IsSafeOve
 use Rattle.array_reshaping_resync_laws.specs.array_members_Moving.{Grows, IsMoved}
 use Rattle.array_reshaping_resync_laws.specs.array_members_Lacking.{AreTooMany, AreLostSince, IsOfStripe, AreOtherRowsKept}
 use Rattle.array_reshaping_resync_laws.specs.reshape_window_rows_Copies.{tail_of, IsZeroIn}
-use Rattle.array_specs.specs.sb_safe_updates_Unused.{IsUnusedKept}
+use Rattle.array_fixed_laws.specs.sb_safe_updates_Unused.{IsUnusedKept}
 use Rattle.array_reshaping_resync_laws.specs.history_append_Losing.{losses_of}
 use Rattle.array_reshaping_resync_laws.specs.reshape_request_the_Window.{Window}
 use Rattle.array_reshaping_resync_laws.specs.reshape_request_the_PhasesLeft.{PhasesLeft}
@@ -39,14 +39,14 @@ use Rattle.array_reshaping_resync_laws.specs.reshape_progress_Laws.{closed}
 use Rattle.array_reshaping_resync_laws.proofs.reshape_progress_Courses.{zeroes-go-on}
 use Rattle.array_reshaping_resync_laws.specs.stripe_region_resync_Left.{resync_left}
 use Rattle.array_reshaping_resync_laws.specs.reshape_progress_resync_laws_Synced.{StandsSynced}
-use Rattle.array_specs.proofs.array_reshaping_state_LeftLaws.{plans-counted, some-left}
-use Rattle.array_specs.proofs.array_reshaping_state_ReshapeLaws.{through-of}
+use Rattle.array_fixed_laws.proofs.array_reshaping_state_LeftLaws.{plans-counted, some-left}
+use Rattle.array_fixed_laws.proofs.array_reshaping_state_ReshapeLaws.{through-of}
 use Rattle.array_reshaping_resync_laws.specs.array_reshaping_invariant_Moving.{IsMoving}
 use Rattle.array_reshaping_resync_laws.proofs.array_reshaping_invariant_MoreSteps.{zeroed-moves}
 use Rattle.array_reshaping_resync_laws.proofs.array_reshaping_invariant_Pending.{none-on}
 use Rattle.array_reshaping_resync_laws.proofs.array_reshaping_invariant_Staying.{refused-moves}
 use Rattle.array_reshaping_resync_laws.proofs.array_reshaping_invariant_Steps.{AreMissingSince, missing-since}
-use Rattle.array_specs.proofs.Called.{not_254, risen-told}
+use Rattle.array_fixed_laws.proofs.array_specs_Called.{not_254, risen-told}
 use Rattle.array_reshaping_laws.proofs.Kept.{left_by, left-moved}
 
 -- ---- the course

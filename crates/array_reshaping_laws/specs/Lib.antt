@@ -5,32 +5,32 @@ pub mod Mending
 pub mod Refusing
 pub use Rattle.array_reshaping_resync_laws.specs.reshape_progress_resync_laws_Synced
 pub use Rattle.array_reshaping_resync_laws.specs.array_reshaping_invariant_Moving
-pub use Rattle.array_specs.specs.Adding as array_specs_Adding
-pub use Rattle.array_specs.specs.Calls as array_specs_Calls
-pub use Rattle.array_specs.specs.Parts as array_specs_Parts
+pub use Rattle.array_fixed_laws.specs.array_specs_Adding
+pub use Rattle.array_fixed_laws.specs.array_specs_Calls
+pub use Rattle.array_fixed_laws.specs.array_specs_Parts
 pub use Rattle.array_reshaping_resync_laws.specs.reshape_window_io_Fetching
 pub use Rattle.array_reshaping_resync_laws.specs.reshape_window_io_Finishing
-pub use Rattle.array_specs.specs.array_reshaping_state_Due
-pub use Rattle.array_specs.specs.array_reshaping_state_First
-pub use Rattle.array_specs.specs.array_reshaping_state_Left
-pub use Rattle.array_specs.specs.array_reshaping_state_the_Due
-pub use Rattle.array_specs.specs.array_reshaping_state_the_Due_TheVariants
-pub use Rattle.array_specs.specs.Plans as array_specs_Plans
-pub use Rattle.array_specs.specs.Still as array_specs_Still
-pub use Rattle.array_specs.specs.reshape_progress_Course
-pub use Rattle.array_specs.specs.reshape_progress_Laws
-pub use Rattle.array_specs.specs.reshape_progress_the_Course
-pub use Rattle.array_specs.specs.stripe_region_resync_Left
-pub use Rattle.array_specs.specs.stripe_region_resync_Resyncs
-pub use Rattle.array_specs.specs.stripe_region_resync_the_Stripe
-pub use Rattle.array_specs.specs.array_call_specs_Calls
-pub use Rattle.array_specs.specs.array_call_specs_Kept
-pub use Rattle.array_specs.specs.history_invariant_laws_Reliable
-pub use Rattle.array_specs.specs.stripe_region_write_Runs
-pub use Rattle.array_specs.specs.sb_safe_updates_Frame
-pub use Rattle.array_specs.specs.sb_safe_updates_First
-pub use Rattle.array_specs.specs.sb_safe_updates_Unused
-pub use Rattle.array_specs.specs.reshape_window_steps_Zeroing
+pub use Rattle.array_fixed_laws.specs.array_reshaping_state_Due
+pub use Rattle.array_fixed_laws.specs.array_reshaping_state_First
+pub use Rattle.array_fixed_laws.specs.array_reshaping_state_Left
+pub use Rattle.array_fixed_laws.specs.array_reshaping_state_the_Due
+pub use Rattle.array_fixed_laws.specs.array_reshaping_state_the_Due_TheVariants
+pub use Rattle.array_fixed_laws.specs.array_specs_Plans
+pub use Rattle.array_fixed_laws.specs.array_specs_Still
+pub use Rattle.array_reshaping_resync_laws.specs.reshape_progress_Course
+pub use Rattle.array_fixed_laws.specs.reshape_progress_Laws
+pub use Rattle.array_reshaping_resync_laws.specs.reshape_progress_the_Course
+pub use Rattle.array_reshaping_resync_laws.specs.stripe_region_resync_Left
+pub use Rattle.array_reshaping_resync_laws.specs.stripe_region_resync_Resyncs
+pub use Rattle.array_fixed_laws.specs.stripe_region_resync_the_Stripe
+pub use Rattle.array_fixed_laws.specs.array_call_specs_Calls
+pub use Rattle.array_fixed_laws.specs.array_call_specs_Kept
+pub use Rattle.array_fixed_laws.specs.history_invariant_laws_Reliable
+pub use Rattle.array_reshaping_resync_laws.specs.stripe_region_write_Runs
+pub use Rattle.array_fixed_laws.specs.sb_safe_updates_Frame
+pub use Rattle.array_fixed_laws.specs.sb_safe_updates_First
+pub use Rattle.array_fixed_laws.specs.sb_safe_updates_Unused
+pub use Rattle.array_fixed_laws.specs.reshape_window_steps_Zeroing
 pub use Rattle.array_reshaping_resync_laws.specs.reshape_window_rows_Copies
 pub use Rattle.array_reshaping_resync_laws.specs.history_invariant_Recorded
 pub use Rattle.array_reshaping_resync_laws.specs.history_invariant_Safe
@@ -45,3 +45,18 @@ pub use Rattle.array_reshaping_resync_laws.specs.crash_reshape_laws_Plans
 pub use Rattle.array_reshaping_resync_laws.specs.crash_safety_laws_Changing
 pub use Rattle.array_reshaping_resync_laws.specs.crash_safety_laws_Updates
 pub use Rattle.array_reshaping_resync_laws.specs.stripe_list_Full
+pub use Rattle.array_fixed_laws.specs.Ready as array_fixed_laws_Ready
+pub use Rattle.array_fixed_laws.specs.array_fixed_invariant_Still
+pub use Rattle.array_fixed_laws.specs.Steps as array_fixed_laws_Steps
+pub use Rattle.array_fixed_laws.specs.Plain as array_fixed_laws_Plain
+pub use Rattle.array_fixed_laws.specs.crash_reshape_laws_Takeovers
+pub use Rattle.array_fixed_laws.specs.stripe_list_Writing
+pub use Rattle.array_fixed_laws.specs.sb_safe_updates_Named
+pub use Rattle.array_fixed_laws.specs.reshape_begin_end_Begun
+pub use Rattle.array_fixed_laws.specs.reshape_begin_end_Finished
+pub use Rattle.array_fixed_laws.specs.reshape_sb_updates_Beginning
+pub use Rattle.array_fixed_laws.specs.reshape_sb_updates_Ending
+pub use Rattle.array_reshaping_resync_laws.specs.history_Losses
+pub use Rattle.array_fixed_laws.specs.raid_types_the_Phase_TheVariants
+pub use Rattle.array_fixed_laws.specs.array_specs_Visible
+pub use Rattle.array_fixed_laws.specs.array_call_specs_Adopting

@@ -1,6 +1,6 @@
 -- The steps of a pending resync of an array in a reshape: when they are due, and what they leave.
 use Rattle.std.specs.Prelude.{◌≡◌, ℕ, ◌<◌, List, None, Some}
-use Rattle.array_specs.specs.raid_types_Sectors.{Sector}
+use Rattle.array_fixed_laws.specs.raid_types_Sectors.{Sector}
 use Rattle.reshape_window_backup.specs.bank_the_Operation.{Operation}
 use Rattle.reshape_window_backup.specs.bank_Given.{Given}
 use Rattle.reshape_window_backup.specs.bank_Tape.{Contents}
@@ -10,8 +10,8 @@ use Rattle.array_reshaping_resync_laws.specs.array_members_Lacking.{DoesWithout}
 use Rattle.array_reshaping_resync_laws.specs.stripe_region_read_Stretches.{RowsStandIn}
 use Rattle.array_reshaping_resync_laws.specs.stripe_region_resync_Resyncs.{resync_stripes}
 use Rattle.array_reshaping_resync_laws.specs.reshape_progress_resync_laws_Synced.{IsAside}
-use Rattle.array_specs.specs.Parts.{RunningParts}
-use Rattle.array_specs.specs.Calls.{IsCalled}
+use Rattle.array_fixed_laws.specs.array_specs_Parts.{RunningParts}
+use Rattle.array_fixed_laws.specs.array_specs_Calls.{IsCalled}
 
 -- no window is entered, and the next stripe of the resync is to be mended
 pub record IsResyncDue {B : Type 0} (array : RunningParts B) : Type 0 where

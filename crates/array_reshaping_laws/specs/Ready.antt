@@ -1,7 +1,7 @@
 -- What an array in a reshape keeps between its calls.
 use Rattle.std.specs.Prelude.{◌≡◌, ℕ, ◌-◌, ◌*◌, ◌<◌, ◌≤◌, false, List, [], length, take, Option}
-use Rattle.array_specs.specs.raid_types_Shapes.{has_slot}
-use Rattle.array_specs.specs.raid_types_the_Span.{Span}
+use Rattle.array_fixed_laws.specs.raid_types_Shapes.{has_slot}
+use Rattle.array_fixed_laws.specs.raid_types_the_Span.{Span}
 use Rattle.reshape_window_backup.specs.bank_the_Operation.{Operation}
 use Rattle.reshape_window_backup.specs.bank_Given.{Given}
 use Rattle.array_reshaping_resync_laws.specs.sb_specs_the_Members.{Members}
@@ -17,7 +17,7 @@ use Rattle.array_reshaping_resync_laws.specs.reshape_request_the_Window.{Window}
 use Rattle.array_reshaping_resync_laws.specs.reshape_request_the_Window_TheVariants.{Closed, Entered, Unsure}
 use Rattle.array_reshaping_resync_laws.specs.reshape_request_the_PhasesLeft.{PhasesLeft}
 use Rattle.array_reshaping_resync_laws.specs.reshape_request_Left.{phases_of}
-use Rattle.array_specs.specs.Parts.{left_in}
+use Rattle.array_fixed_laws.specs.array_specs_Parts.{left_in}
 use Rattle.array_reshaping_resync_laws.specs.array_members_Placed.{AreWhole}
 use Rattle.array_reshaping_resync_laws.specs.history_invariant_Safe.{world_in, TakesNone}
 use Rattle.array_reshaping_resync_laws.specs.reshape_progress_the_Course.{Course}

@@ -1,11 +1,11 @@
 -- Which refusal of a read or a write of an array in a reshape is the first.
 use Rattle.std.specs.Prelude.{ℕ, ◌≡◌, ◌+◌, Option, Some, None, Result, Ok, Err, ⊤}
-use Rattle.array_specs.specs.raid_types_the_Fault.{Fault}
-use Rattle.array_specs.specs.raid_types_the_Fault_TheVariants.{Refused as IsRefusedWith, NoMemory}
-use Rattle.array_specs.specs.raid_types_the_Refusal.{Refusal}
-use Rattle.array_specs.specs.array_reshaping_state_First.{list_refusal}
-use Rattle.array_specs.specs.sb_safe_updates_First.{call_refusal}
-use Rattle.array_specs.specs.Parts.{RunningParts, visible_in}
+use Rattle.array_fixed_laws.specs.raid_types_the_Fault.{Fault}
+use Rattle.array_fixed_laws.specs.raid_types_the_Fault_TheVariants.{Refused as IsRefusedWith, NoMemory}
+use Rattle.array_fixed_laws.specs.raid_types_the_Refusal.{Refusal}
+use Rattle.array_fixed_laws.specs.array_reshaping_state_First.{list_refusal}
+use Rattle.array_fixed_laws.specs.sb_safe_updates_First.{call_refusal}
+use Rattle.array_fixed_laws.specs.array_specs_Parts.{RunningParts, visible_in}
 
 -- what refuses a request for so many sectors from this one on before any device is touched, but for want of parity: it ends past what is visible, or else the first of them
 -- lies in a shape of which too many roles are missing

@@ -1,16 +1,16 @@
 -- Which step of an array in a reshape is done next, what it makes of a pending resync and of the mark, and why it isn't done.
 use Rattle.std.specs.Prelude.{◌≡◌, ℕ, true, Option, Some, None, Result, OnOk}
-use Rattle.array_specs.specs.raid_types_the_Fault.{Fault}
+use Rattle.array_fixed_laws.specs.raid_types_the_Fault.{Fault}
 use Rattle.array_reshaping_resync_laws.specs.sb_specs_the_Members.{Members}
 use Rattle.array_reshaping_resync_laws.specs.sb_specs_Reading.{is_clean, list_length}
 use Rattle.array_reshaping_resync_laws.specs.history_the_StepKind.{StepKind}
 use Rattle.array_reshaping_resync_laws.specs.history_the_StepKind_TheVariants.{Entered, Copied, Checkpointed, Zeroed, Finished, ResyncStripe, ResyncEnded}
 use Rattle.array_reshaping_resync_laws.specs.array_members_Lacking.{AreTooMany}
 use Rattle.array_reshaping_resync_laws.specs.stripe_region_resync_Resyncs.{resync_shape, IsNotSynced}
-use Rattle.array_specs.specs.array_call_specs_Calls.{one_more, IsCausedBy}
-use Rattle.array_specs.specs.array_reshaping_state_the_Due.{Due}
-use Rattle.array_specs.specs.array_reshaping_state_the_Due_TheVariants.{Copy, Record, Mend, EndResync, Enter, Zero, Finish}
-use Rattle.array_specs.specs.Calls.{IsEnterCaused}
+use Rattle.array_fixed_laws.specs.array_call_specs_Calls.{one_more, IsCausedBy}
+use Rattle.array_fixed_laws.specs.array_reshaping_state_the_Due.{Due}
+use Rattle.array_fixed_laws.specs.array_reshaping_state_the_Due_TheVariants.{Copy, Record, Mend, EndResync, Enter, Zero, Finish}
+use Rattle.array_fixed_laws.specs.array_specs_Calls.{IsEnterCaused}
 
 -- the kind of the step that is entered where this one is done
 abbrev pub kind_of : Due → StepKind

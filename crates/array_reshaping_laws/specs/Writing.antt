@@ -1,13 +1,13 @@
 -- What a write of an array in a reshape enters, and why it isn't done.
 use Rattle.std.specs.Prelude.{◌≡◌, ◌⊎◌, ℕ, ◌+◌, ◌-◌, ◌<◌, ◌≤◌, ◌++◌, Bool, true, List, [], ◌∷◌, Result, Ok, Err}
 use Rattle.std.specs.List.{All}
-use Rattle.array_specs.specs.raid_types_Sectors.{Sector}
-use Rattle.array_specs.specs.raid_types_the_Fault.{Fault}
-use Rattle.array_specs.specs.raid_types_the_Fault_TheVariants.{Refused as IsRefusedWith, NoMemory}
-use Rattle.array_specs.specs.raid_types_the_Refusal.{Refusal}
-use Rattle.array_specs.specs.raid_types_the_Refusal_TheVariants.{BackupFault}
-use Rattle.array_specs.specs.raid_types_the_Who.{Who}
-use Rattle.array_specs.specs.raid_types_the_Span.{Span}
+use Rattle.array_fixed_laws.specs.raid_types_Sectors.{Sector}
+use Rattle.array_fixed_laws.specs.raid_types_the_Fault.{Fault}
+use Rattle.array_fixed_laws.specs.raid_types_the_Fault_TheVariants.{Refused as IsRefusedWith, NoMemory}
+use Rattle.array_fixed_laws.specs.raid_types_the_Refusal.{Refusal}
+use Rattle.array_fixed_laws.specs.raid_types_the_Refusal_TheVariants.{BackupFault}
+use Rattle.array_fixed_laws.specs.raid_types_the_Who.{Who}
+use Rattle.array_fixed_laws.specs.raid_types_the_Span.{Span}
 use Rattle.reshape_window_backup.specs.sb_codec_the_Sb.{Sb}
 use Rattle.array_reshaping_resync_laws.specs.sb_specs_the_Members.{Members}
 use Rattle.array_reshaping_resync_laws.specs.history_the_Entry.{Entry}
@@ -21,15 +21,15 @@ use Rattle.array_reshaping_resync_laws.specs.history_Plain.{entries_of}
 use Rattle.array_reshaping_resync_laws.specs.history_Stands.{covers}
 use Rattle.array_reshaping_resync_laws.specs.array_members_Lacking.{AreTooMany}
 use Rattle.array_reshaping_resync_laws.specs.history_append_Losing.{failure_events}
-use Rattle.array_specs.specs.array_call_specs_Calls.{IsBehind, StandsInside}
+use Rattle.array_fixed_laws.specs.array_call_specs_Calls.{IsBehind, StandsInside}
 use Rattle.array_reshaping_resync_laws.specs.history_invariant_Recorded.{entry_of}
 use Rattle.array_reshaping_resync_laws.specs.stripe_region_write_Runs.{IsListUnwritten}
 use Rattle.array_reshaping_resync_laws.specs.reshape_request_the_Window.{Window}
 use Rattle.array_reshaping_resync_laws.specs.reshape_request_the_Window_TheVariants.{Closed, Entered, Unsure}
 use Rattle.array_reshaping_resync_laws.specs.reshape_request_Left.{stripes_in}
 use Rattle.array_reshaping_resync_laws.specs.reshape_progress_Laws.{entered}
-use Rattle.array_specs.specs.array_reshaping_state_Due.{open_in, unsure_in}
-use Rattle.array_specs.specs.Parts.{RunningParts}
+use Rattle.array_fixed_laws.specs.array_reshaping_state_Due.{open_in, unsure_in}
+use Rattle.array_fixed_laws.specs.array_specs_Parts.{RunningParts}
 
 -- a window is entered
 pub record IsWindowOpen {B : Type 0} (array : RunningParts B) : Type 0 where

@@ -1,11 +1,11 @@
 -- The backup of an array in a reshape, by its slot.
 use Rattle.std.proofs.Common.{◌≡◌, ℕ, Option, Some, List, sym, subst}
 use Rattle.std.specs.Prelude.{IfSome, unwrap_or}
-use Rattle.array_fixed_invariant.specs.raid_types_the_Span.{Span}
-use Rattle.array_fixed_invariant.specs.bank_Given.{Given, IsFaulted}
-use Rattle.array_fixed_invariant.specs.sb_specs_the_Members.{Members}
-use Rattle.array_fixed_invariant.specs.sb_specs_Reading.{next_window}
-use Rattle.array_fixed_invariant.specs.array_call_specs_Kept.{scope_in}
+use Rattle.array_type.specs.raid_types_the_Span.{Span}
+use Rattle.array_type.specs.bank_Given.{Given, IsFaulted}
+use Rattle.array_type.specs.sb_specs_the_Members.{Members}
+use Rattle.array_type.specs.sb_specs_Reading.{next_window}
+use Rattle.array_type.specs.array_call_specs_Kept.{scope_in}
 use Rattle.array_type.specs.array_reshaping_invariant_Moving.{AreReshaping}
 use Rattle.array_type.proofs.array_reshaping_laws_EnterLaws.{HasBackup, backup-for}
 

@@ -1,7 +1,7 @@
 -- What is told of arrays that are known by their parts.
 use Rattle.std.proofs.Common.{◌≡◌, ℕ, List, sym, subst}
-use Rattle.array_fixed_invariant.specs.bank_the_Operation.{Operation}
-use Rattle.array_fixed_invariant.specs.bank_Given.{Given}
+use Rattle.array_type.specs.bank_the_Operation.{Operation}
+use Rattle.array_type.specs.bank_Given.{Given}
 use Rattle.array_type.specs.array_specs_Parts.{RunningParts}
 use Rattle.array_type.specs.array_specs_Calls.{IsCalled}
 

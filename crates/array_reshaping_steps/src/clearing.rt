@@ -1,18 +1,19 @@
 //! An unsure window: the header of its section is tried again.
 
-ghost use Rattle.array_fixed_invariant.specs.sb_specs_Reading.{is_reshaping};
+ghost use Rattle.array_type.specs.sb_specs_Reading.{is_reshaping};
 ghost use Rattle.std.specs.Prelude.{◌≡◌, ◌≢◌, ◌+◌, ◌<◌, ◌≤◌, Err, IfSome, true};
-ghost use Rattle.array_fixed_invariant.specs.raid_types_the_Fault_TheVariants.{Refused as IsRefusedWith};
-ghost use Rattle.array_fixed_invariant.specs.raid_types_the_Refusal_TheVariants.{BackupFault};
-ghost use Rattle.array_fixed_invariant.specs.raid_types_the_Span.{Span};
-ghost use Rattle.array_fixed_invariant.specs.bank_Given.{IsFaulted};
+ghost use Rattle.array_type.specs.raid_types_the_Fault_TheVariants.{Refused as IsRefusedWith};
+ghost use Rattle.array_type.specs.raid_types_the_Refusal_TheVariants.{BackupFault};
+ghost use Rattle.array_type.specs.raid_types_the_Span.{Span};
+ghost use Rattle.array_type.specs.bank_Given.{IsFaulted};
 ghost use Rattle.array_type.specs.reshape_request_the_Window_TheVariants.{Unsure as IsUnsureWindow};
-ghost use Rattle.array_fixed_invariant.specs.history_invariant_Recorded.{IsCallGoing};
+ghost use Rattle.array_type.specs.history_invariant_Recorded.{IsCallGoing};
 ghost use Rattle.array_type.specs.array_specs_Calls.{IsCalled};
 ghost use Rattle.array_type.specs.array_reshaping_laws_Writing.{IsRefusedAlone};
 
-use array_fixed_invariant::{Fault, Refusal, Who, append_entry};
-use array_type::{Array, Bank, Event, check_going, clear_window};
+use array_type::{
+    Array, Bank, Event, Fault, Refusal, Who, append_entry, check_going, clear_window,
+};
 
 /// Tries to make the header of an unsure window plain. It is refused `BackupFault`, and nothing is written: the backup failed when the
 /// header was written, and a slot that failed once fails again.

@@ -1,34 +1,34 @@
 //! The steps of a reshape between its begin and its end.
 
 ghost use Rattle.std.specs.Prelude.{◌≡◌, ◌≢◌, ◌+◌, ◌-◌, ◌*◌, ◌<◌, ◌≤◌, ℕ, Bool, length, take, None, Some, MatchOption, OnOk, OnErr, ⊤, true};
-ghost use Rattle.array_fixed_invariant.specs.raid_types_Sectors.{Sector};
-ghost use Rattle.array_fixed_invariant.specs.raid_types_the_Span.{Span};
-ghost use Rattle.array_fixed_invariant.specs.bank_Tape.{disk};
-ghost use Rattle.array_fixed_invariant.specs.sb_specs_Reading.{is_clean, final_shape, list_length, next_window, is_reshaping};
-ghost use Rattle.array_fixed_invariant.specs.stripe_row_Rows.{present, reading_of};
-ghost use Rattle.array_fixed_invariant.specs.stripe_list_Full.{RowStands};
-ghost use Rattle.array_fixed_invariant.specs.history_World.{World};
-ghost use Rattle.array_fixed_invariant.specs.history_the_StepKind_TheVariants.{Copied as CopiesStripe};
-ghost use Rattle.array_fixed_invariant.specs.crash_views_Views.{Ledger};
-ghost use Rattle.array_fixed_invariant.specs.crash_views_Windows.{IsCopyable};
-ghost use Rattle.array_fixed_invariant.specs.crash_safety_laws_Safety.{HasRoomLeft, IsRisen};
-ghost use Rattle.array_fixed_invariant.specs.crash_safety_laws_Steady.{IsSafeOver, KeepsSafe, AreGoneTold, IsUncleanTold};
-ghost use Rattle.array_fixed_invariant.specs.array_members_Moving.{IsMoved};
-ghost use Rattle.array_fixed_invariant.specs.array_members_Lacking.{AreLostSince, AreTooMany, AreOtherRowsKept, IsOfStripe};
-ghost use Rattle.array_fixed_invariant.specs.sb_safe_updates_Unused.{IsUnusedKept};
-ghost use Rattle.array_fixed_invariant.specs.reshape_request_Left.{stripes_in};
+ghost use Rattle.array_type.specs.raid_types_Sectors.{Sector};
+ghost use Rattle.array_type.specs.raid_types_the_Span.{Span};
+ghost use Rattle.array_type.specs.bank_Tape.{disk};
+ghost use Rattle.array_type.specs.sb_specs_Reading.{is_clean, final_shape, list_length, next_window, is_reshaping};
+ghost use Rattle.array_type.specs.stripe_row_Rows.{present, reading_of};
+ghost use Rattle.array_type.specs.stripe_list_Full.{RowStands};
+ghost use Rattle.array_type.specs.history_World.{World};
+ghost use Rattle.array_type.specs.history_the_StepKind_TheVariants.{Copied as CopiesStripe};
+ghost use Rattle.array_type.specs.crash_views_Views.{Ledger};
+ghost use Rattle.array_type.specs.crash_views_Windows.{IsCopyable};
+ghost use Rattle.array_type.specs.crash_safety_laws_Safety.{HasRoomLeft, IsRisen};
+ghost use Rattle.array_type.specs.crash_safety_laws_Steady.{IsSafeOver, KeepsSafe, AreGoneTold, IsUncleanTold};
+ghost use Rattle.array_type.specs.array_members_Moving.{IsMoved};
+ghost use Rattle.array_type.specs.array_members_Lacking.{AreLostSince, AreTooMany, AreOtherRowsKept, IsOfStripe};
+ghost use Rattle.array_type.specs.sb_safe_updates_Unused.{IsUnusedKept};
+ghost use Rattle.array_type.specs.reshape_request_Left.{stripes_in};
 ghost use Rattle.array_type.specs.reshape_window_rows_Copies.{tail_of, IsCopied};
-ghost use Rattle.array_fixed_invariant.specs.reshape_progress_Laws.{entered, next_stripe};
-ghost use Rattle.array_fixed_invariant.specs.array_call_specs_Calls.{IsCausedBy};
-ghost use Rattle.array_fixed_invariant.specs.history_invariant_Recorded.{IsCallGoing};
+ghost use Rattle.array_type.specs.array_fixed_invariant_reshape_progress_Laws.{entered, next_stripe};
+ghost use Rattle.array_type.specs.array_call_specs_Calls.{IsCausedBy};
+ghost use Rattle.array_type.specs.history_invariant_Recorded.{IsCallGoing};
 ghost use Rattle.array_type.specs.array_specs_Parts.{left_in};
 ghost use Rattle.array_type.specs.array_specs_Calls.{IsCalled, IsStepTaken, IsCopyDue};
 ghost use Rattle.array_type.specs.sb_safe_updates_Frame.{Stands, GoesOn};
 
-use array_fixed_invariant::{Fault, Refusal, Span, Who, append_after_losses, append_entry};
 use array_type::{
-    Array, Bank, Event, Members, StepKind, Window, check_going, copy, final_in, left_in_reshape,
-    newly_unassigned, stripe_to_copy, too_many, unassigned_roles,
+    Array, Bank, Event, Fault, Members, Refusal, Span, StepKind, Who, Window, append_after_losses,
+    append_entry, check_going, copy, final_in, left_in_reshape, newly_unassigned, stripe_to_copy,
+    too_many, unassigned_roles,
 };
 
 // The roles and the spares that were lost in a step, and why it wasn't done.

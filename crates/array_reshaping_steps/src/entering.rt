@@ -1,23 +1,23 @@
 //! The next window of a reshape is entered.
 
 ghost use Rattle.std.specs.Prelude.{◌≡◌, ◌≢◌, ◌⊎◌, ◌+◌, ◌≤◌, true, false, length, OnOk, OnErr};
-ghost use Rattle.array_fixed_invariant.specs.raid_types_the_Refusal.{Refusal as AnyRefusal};
-ghost use Rattle.array_fixed_invariant.specs.raid_types_the_Span.{Span as AnySpan};
-ghost use Rattle.array_fixed_invariant.specs.sb_specs_Reading.{is_clean, role_count, is_reshaping};
+ghost use Rattle.array_type.specs.raid_types_the_Refusal.{Refusal as AnyRefusal};
+ghost use Rattle.array_type.specs.raid_types_the_Span.{Span as AnySpan};
+ghost use Rattle.array_type.specs.sb_specs_Reading.{is_clean, role_count, is_reshaping};
 ghost use Rattle.array_type.specs.sb_specs_Verdict.{AreValidShapes};
-ghost use Rattle.array_fixed_invariant.specs.history_the_StepKind_TheVariants.{Entered as EntersWindow};
-ghost use Rattle.array_fixed_invariant.specs.crash_views_Regions.{DoWithout};
-ghost use Rattle.array_fixed_invariant.specs.array_members_Lacking.{AreTooMany};
+ghost use Rattle.array_type.specs.history_the_StepKind_TheVariants.{Entered as EntersWindow};
+ghost use Rattle.array_type.specs.crash_views_Regions.{DoWithout};
+ghost use Rattle.array_type.specs.array_members_Lacking.{AreTooMany};
 ghost use Rattle.array_type.specs.reshape_request_the_Window_TheVariants.{Unsure as IsUnsureWindow};
-ghost use Rattle.array_fixed_invariant.specs.history_invariant_Recorded.{IsCallGoing};
+ghost use Rattle.array_type.specs.history_invariant_Recorded.{IsCallGoing};
 ghost use Rattle.array_type.specs.array_specs_Parts.{left_in};
 ghost use Rattle.array_type.specs.array_specs_Calls.{IsCalled, IsStepTaken, IsEnterDue, IsEnterCaused, IsNextOpen, IsNextUnsure};
 
 use crate::clearing::clear;
-use array_fixed_invariant::{Fault, Who, append_after_losses, append_entry};
 use array_type::{
-    Array, Bank, Course, Event, Members, StepKind, Window, check_going, enter_next,
-    is_window_critical, left_in_reshape, list_sectors, next_window_of, too_many,
+    Array, Bank, Course, Event, Fault, Members, StepKind, Who, Window, append_after_losses,
+    append_entry, check_going, enter_next, is_window_critical, left_in_reshape, list_sectors,
+    next_window_of, too_many,
 };
 
 // Whether a window is unsure, and no more roles are missing than the shapes in force tolerate.

@@ -1,28 +1,28 @@
 //! An open window is finished in one call.
 
 ghost use Rattle.std.specs.Prelude.{◌≡◌, ◌≢◌, ◌+◌, ◌-◌, ◌*◌, ◌≤◌, ℕ, length, take, None, Some, MatchOption, OnOk, OnErr, ⊤, true};
-ghost use Rattle.array_fixed_invariant.specs.raid_types_Sectors.{Sector};
-ghost use Rattle.array_fixed_invariant.specs.bank_Tape.{disk};
+ghost use Rattle.array_type.specs.raid_types_Sectors.{Sector};
+ghost use Rattle.array_type.specs.bank_Tape.{disk};
 ghost use Rattle.array_type.specs.reshape_geometry_Geometry.{stripes};
-ghost use Rattle.array_fixed_invariant.specs.sb_specs_Reading.{Scope, is_clean, final_shape, list_length, next_window, is_reshaping};
-ghost use Rattle.array_fixed_invariant.specs.stripe_row_Rows.{present, reading_of};
-ghost use Rattle.array_fixed_invariant.specs.history_World.{World};
-ghost use Rattle.array_fixed_invariant.specs.history_Sound.{OpensFit};
-ghost use Rattle.array_fixed_invariant.specs.history_the_StepKind_TheVariants.{WindowFinished as FinishesWindow};
-ghost use Rattle.array_fixed_invariant.specs.crash_views_Regions.{ArePlaced};
-ghost use Rattle.array_fixed_invariant.specs.crash_views_Views.{AreHeadersFit, Ledger};
-ghost use Rattle.array_fixed_invariant.specs.crash_views_Windows.{HasNoSection, moved_past};
-ghost use Rattle.array_fixed_invariant.specs.crash_safety_laws_Safety.{HasRoomLeft, IsRisen};
-ghost use Rattle.array_fixed_invariant.specs.crash_safety_laws_Steady.{IsSafeOver, KeepsSafe, AreGoneTold, IsUncleanTold};
-ghost use Rattle.array_fixed_invariant.specs.array_members_Moving.{IsMoved};
-ghost use Rattle.array_fixed_invariant.specs.array_members_Lacking.{HaveFailedSince, HaveRolesFailed, AreLostSince, AreTooMany, AreOtherRowsKept};
-ghost use Rattle.array_fixed_invariant.specs.sb_safe_updates_Unused.{IsUnusedKept};
+ghost use Rattle.array_type.specs.sb_specs_Reading.{Scope, is_clean, final_shape, list_length, next_window, is_reshaping};
+ghost use Rattle.array_type.specs.stripe_row_Rows.{present, reading_of};
+ghost use Rattle.array_type.specs.history_World.{World};
+ghost use Rattle.array_type.specs.history_Sound.{OpensFit};
+ghost use Rattle.array_type.specs.history_the_StepKind_TheVariants.{WindowFinished as FinishesWindow};
+ghost use Rattle.array_type.specs.crash_views_Regions.{ArePlaced};
+ghost use Rattle.array_type.specs.crash_views_Views.{AreHeadersFit, Ledger};
+ghost use Rattle.array_type.specs.crash_views_Windows.{HasNoSection, moved_past};
+ghost use Rattle.array_type.specs.crash_safety_laws_Safety.{HasRoomLeft, IsRisen};
+ghost use Rattle.array_type.specs.crash_safety_laws_Steady.{IsSafeOver, KeepsSafe, AreGoneTold, IsUncleanTold};
+ghost use Rattle.array_type.specs.array_members_Moving.{IsMoved};
+ghost use Rattle.array_type.specs.array_members_Lacking.{HaveFailedSince, HaveRolesFailed, AreLostSince, AreTooMany, AreOtherRowsKept};
+ghost use Rattle.array_type.specs.sb_safe_updates_Unused.{IsUnusedKept};
 ghost use Rattle.array_type.specs.reshape_window_rows_Copies.{tail_of, IsCopied};
 ghost use Rattle.array_type.specs.reshape_window_io_Finishing.{IsOfRest, AreStripesCopied, IsOpenWindow};
-ghost use Rattle.array_fixed_invariant.specs.array_call_specs_Calls.{IsCausedBy};
-ghost use Rattle.array_fixed_invariant.specs.history_invariant_Recorded.{IsCallGoing};
+ghost use Rattle.array_type.specs.array_call_specs_Calls.{IsCausedBy};
+ghost use Rattle.array_type.specs.history_invariant_Recorded.{IsCallGoing};
 ghost use Rattle.array_type.specs.stripe_region_resync_Resyncs.{relied_sector};
-ghost use Rattle.array_fixed_invariant.specs.reshape_progress_Laws.{closed};
+ghost use Rattle.array_type.specs.array_fixed_invariant_reshape_progress_Laws.{closed};
 ghost use Rattle.array_type.specs.array_specs_Parts.{left_in};
 ghost use Rattle.array_type.specs.array_reshaping_invariant_Moving.{IsWindowStanding};
 ghost use Rattle.array_type.specs.array_reshaping_state_Due.{open_in};
@@ -30,10 +30,10 @@ ghost use Rattle.array_type.specs.array_specs_Calls.{moving_world, IsCalled, IsS
 ghost use Rattle.array_type.specs.array_reshaping_laws_Writing.{IsWindowOpen, steps_in};
 ghost use Rattle.array_type.specs.sb_safe_updates_Frame.{Stands, GoesOn};
 
-use array_fixed_invariant::{Fault, Refusal, Span, Who, append_after_losses, append_entry};
 use array_type::{
-    Array, Bank, Course, Event, Members, StepKind, Window, check_going, final_in, finish_window,
-    left_in_reshape, newly_unassigned, too_many, unassigned_roles,
+    Array, Bank, Course, Event, Fault, Members, Refusal, Span, StepKind, Who, Window,
+    append_after_losses, append_entry, check_going, final_in, finish_window, left_in_reshape,
+    newly_unassigned, too_many, unassigned_roles,
 };
 
 // The roles and the spares that were lost as a window was finished, how many of its stripes are copied, and why it isn't.

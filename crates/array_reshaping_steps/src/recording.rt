@@ -1,19 +1,18 @@
 //! The windows of a reshape are recorded.
 
 ghost use Rattle.std.specs.Prelude.{◌≡◌, ◌≢◌, ◌+◌, ◌≤◌, OnOk, OnErr, true};
-ghost use Rattle.array_fixed_invariant.specs.history_the_StepKind_TheVariants.{Checkpointed as RecordsWindow};
-ghost use Rattle.array_fixed_invariant.specs.sb_specs_Reading.{is_clean, list_length, is_reshaping};
-ghost use Rattle.array_fixed_invariant.specs.array_members_Lacking.{AreTooMany};
-ghost use Rattle.array_fixed_invariant.specs.array_call_specs_Calls.{IsCausedBy};
-ghost use Rattle.array_fixed_invariant.specs.history_invariant_Recorded.{IsCallGoing};
-ghost use Rattle.array_fixed_invariant.specs.reshape_progress_Laws.{closed};
+ghost use Rattle.array_type.specs.history_the_StepKind_TheVariants.{Checkpointed as RecordsWindow};
+ghost use Rattle.array_type.specs.sb_specs_Reading.{is_clean, list_length, is_reshaping};
+ghost use Rattle.array_type.specs.array_members_Lacking.{AreTooMany};
+ghost use Rattle.array_type.specs.array_call_specs_Calls.{IsCausedBy};
+ghost use Rattle.array_type.specs.history_invariant_Recorded.{IsCallGoing};
+ghost use Rattle.array_type.specs.array_fixed_invariant_reshape_progress_Laws.{closed};
 ghost use Rattle.array_type.specs.array_specs_Parts.{left_in};
 ghost use Rattle.array_type.specs.array_specs_Calls.{IsCalled, IsStepTaken, IsRecordDue};
 
-use array_fixed_invariant::{Fault, Who, append_after_losses, append_entry};
 use array_type::{
-    Array, Bank, Course, Event, StepKind, Window, check_going, left_in_reshape, newly_unassigned,
-    record, too_many, unassigned_roles,
+    Array, Bank, Course, Event, Fault, StepKind, Who, Window, append_after_losses, append_entry,
+    check_going, left_in_reshape, newly_unassigned, record, too_many, unassigned_roles,
 };
 
 /// A step of the reshape: the open window, whose stripes are all copied, is recorded. Refusals: `TooManyMissing`. It takes no

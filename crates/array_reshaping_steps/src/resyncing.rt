@@ -1,26 +1,26 @@
 //! The steps of a pending resync.
 
 ghost use Rattle.std.specs.Prelude.{◌≡◌, ◌≢◌, ◌+◌, ◌≤◌, ℕ, false, true, None, Some, OnOk};
-ghost use Rattle.array_fixed_invariant.specs.sb_specs_Reading.{is_clean, list_length, is_reshaping};
-ghost use Rattle.array_fixed_invariant.specs.stripe_row_Rows.{reading_of, present};
-ghost use Rattle.array_fixed_invariant.specs.history_Flat.{now};
-ghost use Rattle.array_fixed_invariant.specs.history_Sound.{OpensFit};
-ghost use Rattle.array_fixed_invariant.specs.history_World.{opening_list};
-ghost use Rattle.array_fixed_invariant.specs.history_the_StepKind_TheVariants.{ResyncStripe as ResyncsStripe, ResyncEnded as EndsResync};
-ghost use Rattle.array_fixed_invariant.specs.array_members_Lacking.{AreHoldersFlushed, AreTooMany};
-ghost use Rattle.array_fixed_invariant.specs.sb_safe_updates_First.{IsFirstRefused};
+ghost use Rattle.array_type.specs.sb_specs_Reading.{is_clean, list_length, is_reshaping};
+ghost use Rattle.array_type.specs.stripe_row_Rows.{reading_of, present};
+ghost use Rattle.array_type.specs.history_Flat.{now};
+ghost use Rattle.array_type.specs.history_Sound.{OpensFit};
+ghost use Rattle.array_type.specs.history_World.{opening_list};
+ghost use Rattle.array_type.specs.history_the_StepKind_TheVariants.{ResyncStripe as ResyncsStripe, ResyncEnded as EndsResync};
+ghost use Rattle.array_type.specs.array_members_Lacking.{AreHoldersFlushed, AreTooMany};
+ghost use Rattle.array_type.specs.sb_safe_updates_First.{IsFirstRefused};
 ghost use Rattle.array_type.specs.stripe_region_resync_Resyncs.{resync_shape, refusal_of_resync, IsNotSynced};
-ghost use Rattle.array_fixed_invariant.specs.array_call_specs_Calls.{one_more, by_answer, IsCausedBy};
-ghost use Rattle.array_fixed_invariant.specs.history_invariant_Recorded.{IsCallGoing};
+ghost use Rattle.array_type.specs.array_call_specs_Calls.{one_more, by_answer, IsCausedBy};
+ghost use Rattle.array_type.specs.history_invariant_Recorded.{IsCallGoing};
 ghost use Rattle.array_type.specs.array_specs_Parts.{left_in};
 ghost use Rattle.array_type.specs.array_specs_Calls.{moving_world, IsStepTaken};
 ghost use Rattle.array_type.specs.array_reshaping_laws_Resyncing.{IsResyncDue, IsResyncEndDue, IsResyncCalled, AreRowsGood};
 
-use array_fixed_invariant::{
-    Fault, Who, append_after_losses, append_entry, newly_unassigned, too_many, unassigned_roles,
+use array_type::{
+    Array, Bank, Event, Fault, StepKind, Who, append_after_losses, append_entry, check_going,
+    first_resync_refusal_from, flush_and_mark, left_in_reshape, newly_unassigned, resync_list,
+    too_many, unassigned_roles,
 };
-use array_reshaping_laws::{first_resync_refusal, flush_and_mark, resync_list};
-use array_type::{Array, Bank, Event, StepKind, check_going, left_in_reshape};
 
 /// A step of the pending resync, while no window is entered: makes the parity of its next stripe fit the data, by the shape of its
 /// region. Every role that has data by that shape must be there. Refusals: `TooManyMissing` and `NotResynced`. It takes no memory.
@@ -48,7 +48,7 @@ pub fn resync_stripe<B: Bank>(moving: &mut Array<B>, who: Who) -> Result<(), Fau
     moving.steps -= 1;
     check_going(&moving.epoch.entries, who);
     let stripes = moving.work.resync.unwrap_or(0);
-    if let Some(refusal) = first_resync_refusal(&moving.members, stripes) {
+    if let Some(refusal) = first_resync_refusal_from(&moving.members, stripes) {
         let end = moving.bank.ops();
         append_entry(&mut moving.epoch, who, end, Event::Refused { refusal });
         return Err(Fault::Refused(refusal));

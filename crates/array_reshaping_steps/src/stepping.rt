@@ -1,9 +1,9 @@
 //! The step that is due.
 
-ghost use Rattle.array_fixed_invariant.specs.sb_specs_Reading.{is_reshaping};
+ghost use Rattle.array_type.specs.sb_specs_Reading.{is_reshaping};
 ghost use Rattle.std.specs.Prelude.{◌≡◌, ◌≢◌, ◌⊎◌, ◌+◌, ◌≤◌, OnOk, OnErr, true};
-ghost use Rattle.array_fixed_invariant.specs.array_call_specs_Calls.{by_answer};
-ghost use Rattle.array_fixed_invariant.specs.history_invariant_Recorded.{IsCallGoing};
+ghost use Rattle.array_type.specs.array_call_specs_Calls.{by_answer};
+ghost use Rattle.array_type.specs.history_invariant_Recorded.{IsCallGoing};
 ghost use Rattle.array_type.specs.array_reshaping_state_Due.{due_of};
 ghost use Rattle.array_type.specs.array_reshaping_state_the_Due_TheVariants.{Finish as EndsReshape};
 ghost use Rattle.array_type.specs.array_specs_Parts.{left_in};
@@ -16,8 +16,7 @@ use crate::entering::enter_window;
 use crate::recording::record_window;
 use crate::resyncing::{end_resync, resync_stripe};
 use crate::zeroing::zero_stripe;
-use array_fixed_invariant::{Fault, Who};
-use array_type::{Array, Bank, Due, due_step};
+use array_type::{Array, Bank, Due, Fault, Who, due_step};
 
 /// The step that is due, but for the end of the reshape: a stripe of the entered window is copied, or it is recorded; of a pending
 /// resync the next stripe is mended, or it ends; the next window is entered, or a stripe behind the list is zeroed. Refusals: `TooManyMissing`, `NotResynced` where a stripe is to be mended, and `BackupFault` where a window is to be

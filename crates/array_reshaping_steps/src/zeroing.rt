@@ -1,19 +1,18 @@
 //! The stripes behind the list, once a reshape has gone through it.
 
 ghost use Rattle.std.specs.Prelude.{◌≡◌, ◌≢◌, ◌+◌, ◌≤◌, None, OnOk, OnErr, true};
-ghost use Rattle.array_fixed_invariant.specs.history_the_StepKind_TheVariants.{Zeroed as ZeroesStripe};
-ghost use Rattle.array_fixed_invariant.specs.sb_specs_Reading.{is_clean, list_length, is_reshaping};
-ghost use Rattle.array_fixed_invariant.specs.array_members_Lacking.{AreTooMany};
-ghost use Rattle.array_fixed_invariant.specs.array_call_specs_Calls.{IsCausedBy};
-ghost use Rattle.array_fixed_invariant.specs.history_invariant_Recorded.{IsCallGoing};
-ghost use Rattle.array_fixed_invariant.specs.reshape_progress_Laws.{closed};
+ghost use Rattle.array_type.specs.history_the_StepKind_TheVariants.{Zeroed as ZeroesStripe};
+ghost use Rattle.array_type.specs.sb_specs_Reading.{is_clean, list_length, is_reshaping};
+ghost use Rattle.array_type.specs.array_members_Lacking.{AreTooMany};
+ghost use Rattle.array_type.specs.array_call_specs_Calls.{IsCausedBy};
+ghost use Rattle.array_type.specs.history_invariant_Recorded.{IsCallGoing};
+ghost use Rattle.array_type.specs.array_fixed_invariant_reshape_progress_Laws.{closed};
 ghost use Rattle.array_type.specs.array_specs_Parts.{left_in};
 ghost use Rattle.array_type.specs.array_specs_Calls.{IsCalled, IsStepTaken, IsZeroDue};
 
-use array_fixed_invariant::{Fault, Who, append_after_losses, append_entry};
 use array_type::{
-    Array, Bank, Event, StepKind, check_going, final_in, left_in_reshape, newly_unassigned,
-    stripe_to_zero, too_many, unassigned_roles, zero,
+    Array, Bank, Event, Fault, StepKind, Who, append_after_losses, append_entry, check_going,
+    final_in, left_in_reshape, newly_unassigned, stripe_to_zero, too_many, unassigned_roles, zero,
 };
 
 /// A step of the reshape, which has gone through the list, where no resync is pending: the next stripe behind it is zeroed. Refusals: `TooManyMissing`. It

@@ -11,35 +11,35 @@ use Rattle.array_takeover_laws.specs.raid_types_the_Shape.{Shape}
 use Rattle.array_takeover_laws.specs.raid_types_the_Role.{Role}
 use Rattle.array_takeover_laws.specs.raid_types_the_Role_TheVariants.{Whole, Recovering, Missing}
 use Rattle.array_takeover_laws.proofs.raid_types_Tabulated.{length-tabulate, get_or-tabulate}
-use Rattle.array_fixed_io.specs.bank_Given.{Given, IsFaulted}
+use Rattle.array_fixed_sync.specs.bank_Given.{Given, IsFaulted}
 use Rattle.reshape_sb_takeover.proofs.raid_layout_Limits.{limited}
-use Rattle.array_fixed_io.specs.sb_specs_the_Change.{Change}
-use Rattle.array_fixed_io.specs.sb_specs_the_Give.{Give}
-use Rattle.array_fixed_io.specs.sb_specs_the_Members.{Members}
-use Rattle.array_fixed_io.specs.sb_specs_Outcome.{is_planned_holder, held_state, planned_state}
-use Rattle.array_fixed_io.specs.sb_specs_Reading.{is_reshaping, is_whole, shape_of, role_count, role_state, holder}
-use Rattle.array_fixed_io.specs.sb_specs_Update.{give_of, planned_role}
-use Rattle.array_fixed_io.proofs.sb_read_laws_SaidLists.{held-holder}
-use Rattle.array_fixed_io.proofs.sb_read_laws_SaidSlots.{below-length}
-use Rattle.array_fixed_io.proofs.sb_specs_ValidFields.{few-roles}
-use Rattle.array_fixed_io.specs.stripe_row_Rows.{reading_of, is_missing}
-use Rattle.array_fixed_io.specs.crash_safety_laws_Safety.{HasLiveSlot}
-use Rattle.array_fixed_io.specs.crash_safety_laws_Steady.{AreUnlost}
-use Rattle.array_fixed_io.proofs.crash_safety_laws_PlannedRoles.{planned-held, held-planned}
-use Rattle.array_fixed_io.specs.array_members_Lacking.{AreLostSince, HaveFailedSince}
-use Rattle.array_fixed_io.specs.array_members_Moving.{IsMoved}
-use Rattle.array_fixed_io.specs.array_members_Placed.{is_unassigned, IsPlaced}
-use Rattle.array_fixed_io.specs.array_members_Rebuilding.{AreSparesFree}
-use Rattle.array_fixed_io.proofs.array_members_Fit.{roles-still}
-use Rattle.array_fixed_io.proofs.array_members_LiveLeft.{holder-left}
-use Rattle.array_fixed_io.proofs.array_members_MarkLaws.{role_from-found}
-use Rattle.array_fixed_io.proofs.array_members_Still.{count-still}
-use Rattle.array_fixed_io.proofs.history_invariant_laws_Behind.{IsAmong}
+use Rattle.array_fixed_sync.specs.sb_specs_the_Change.{Change}
+use Rattle.array_fixed_sync.specs.sb_specs_the_Give.{Give}
+use Rattle.array_fixed_sync.specs.sb_specs_the_Members.{Members}
+use Rattle.array_fixed_sync.specs.sb_specs_Outcome.{is_planned_holder, held_state, planned_state}
+use Rattle.array_fixed_sync.specs.sb_specs_Reading.{is_reshaping, is_whole, shape_of, role_count, role_state, holder}
+use Rattle.array_fixed_sync.specs.sb_specs_Update.{give_of, planned_role}
+use Rattle.array_fixed_sync.proofs.sb_read_laws_SaidLists.{held-holder}
+use Rattle.array_fixed_sync.proofs.sb_read_laws_SaidSlots.{below-length}
+use Rattle.array_fixed_sync.proofs.sb_specs_ValidFields.{few-roles}
+use Rattle.array_fixed_sync.specs.stripe_row_Rows.{reading_of, is_missing}
+use Rattle.array_fixed_sync.specs.crash_safety_laws_Safety.{HasLiveSlot}
+use Rattle.array_fixed_sync.specs.crash_safety_laws_Steady.{AreUnlost}
+use Rattle.array_fixed_sync.proofs.crash_safety_laws_PlannedRoles.{planned-held, held-planned}
+use Rattle.array_fixed_sync.specs.array_members_Lacking.{AreLostSince, HaveFailedSince}
+use Rattle.array_fixed_sync.specs.array_members_Moving.{IsMoved}
+use Rattle.array_fixed_sync.specs.array_members_Placed.{is_unassigned, IsPlaced}
+use Rattle.array_fixed_sync.specs.array_members_Rebuilding.{AreSparesFree}
+use Rattle.array_fixed_sync.proofs.array_members_Fit.{roles-still}
+use Rattle.array_fixed_sync.proofs.array_members_LiveLeft.{holder-left}
+use Rattle.array_fixed_sync.proofs.array_members_MarkLaws.{role_from-found}
+use Rattle.array_fixed_sync.proofs.array_members_Still.{count-still}
+use Rattle.array_fixed_sync.proofs.history_invariant_laws_Behind.{IsAmong}
 use Rattle.reshape_sb_takeover.specs.TakingOver.{CanTakeUp, CanTakeOver, taking_over, taken_plan}
 use Rattle.reshape_sb_takeover.proofs.TakenPlan.{count, gives-or, live, one-holder}
-use Rattle.array_fixed_io.specs.array_fixed_invariant_Still.{AreNoneMissing}
+use Rattle.array_fixed_sync.specs.array_fixed_invariant_Still.{AreNoneMissing}
 use Rattle.array_takeover.proofs.Chosen.{whole-slot}
-use Rattle.array_fixed_io.proofs.array_members_MarkLaws.{holder-held}
+use Rattle.array_fixed_sync.proofs.array_members_MarkLaws.{holder-held}
 
 lt-true : (a b : ℕ) → a < b → nat_lt a b ≡ true
 lt-true a b lt = grind (arith, nat_tests, lt)

@@ -7,12 +7,12 @@ use Rattle.array_takeover_laws.specs.raid_types_the_Role.{Role}
 use Rattle.array_takeover_laws.specs.raid_types_the_Role_TheVariants.{Whole, Recovering, Missing}
 use Rattle.array_takeover_laws.specs.raid_types_the_Phase.{Phase}
 use Rattle.array_takeover_laws.specs.raid_types_the_Phase_TheVariants.{UpTo6, DownTo5}
-use Rattle.array_fixed_io.specs.reshape_plan_Plans.{AreSound, taken_up}
-use Rattle.array_fixed_io.specs.sb_specs_the_Members.{Members}
-use Rattle.array_fixed_io.specs.sb_specs_Reading.{is_whole, shape_of}
-use Rattle.array_fixed_io.specs.sb_specs_Reads.{has_spare}
+use Rattle.array_fixed_sync.specs.reshape_plan_Plans.{AreSound, taken_up}
+use Rattle.array_fixed_sync.specs.sb_specs_the_Members.{Members}
+use Rattle.array_fixed_sync.specs.sb_specs_Reading.{is_whole, shape_of}
+use Rattle.array_fixed_sync.specs.sb_specs_Reads.{has_spare}
 use Rattle.reshape_sb_takeover.specs.TakingOver.{CanTakeOver}
-use Rattle.array_fixed_io.proofs.array_fixed_Lowest.{lowest-found}
+use Rattle.array_fixed_sync.proofs.Lowest.{lowest-found}
 use Rattle.array_takeover.specs.TakenOver.{IsTakeoverNext, IsTakenSlot}
 
 -- from level 5 to 6, or back

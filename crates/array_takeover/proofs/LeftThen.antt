@@ -12,24 +12,24 @@ use Rattle.array_takeover_laws.specs.raid_types_the_Shape.{Shape}
 use Rattle.array_takeover_laws.specs.raid_types_the_Role.{Role}
 use Rattle.array_takeover_laws.specs.raid_types_the_Role_TheVariants.{Whole, Recovering, Missing}
 use Rattle.array_takeover_laws.proofs.raid_types_Least.{least_below-none}
-use Rattle.array_fixed_io.specs.sb_specs_the_Members.{Members}
-use Rattle.array_fixed_io.specs.sb_specs_Reading.{is_reshaping, is_whole, shape_of, final_shape, role_state, holder}
-use Rattle.array_fixed_io.specs.stripe_row_Rows.{reading_of, is_missing, IsTolerated}
-use Rattle.array_fixed_io.specs.history_the_Entry.{Entry}
-use Rattle.array_fixed_io.specs.history_the_Event.{Event}
-use Rattle.array_fixed_io.specs.history_the_Event_TheVariants.{Lost}
-use Rattle.array_fixed_io.specs.history_the_LostCause_TheVariants.{Fault}
-use Rattle.array_fixed_io.specs.history_Plain.{entries_of}
-use Rattle.array_fixed_io.specs.crash_views_Regions.{DoWithout}
-use Rattle.array_fixed_io.proofs.crash_views_Stands.{final-still}
-use Rattle.array_fixed_io.specs.array_members_the_Work.{Work}
-use Rattle.array_fixed_io.specs.array_members_Placed.{is_unassigned}
-use Rattle.array_fixed_io.specs.array_members_Status.{stripes_of, rebuilt_of, vacant_count, spare_count, resync_left, role_left, recovery_left, left_of}
-use Rattle.array_fixed_io.proofs.array_members_Still.{count-still}
+use Rattle.array_fixed_sync.specs.sb_specs_the_Members.{Members}
+use Rattle.array_fixed_sync.specs.sb_specs_Reading.{is_reshaping, is_whole, shape_of, final_shape, role_state, holder}
+use Rattle.array_fixed_sync.specs.stripe_row_Rows.{reading_of, is_missing, IsTolerated}
+use Rattle.array_fixed_sync.specs.history_the_Entry.{Entry}
+use Rattle.array_fixed_sync.specs.history_the_Event.{Event}
+use Rattle.array_fixed_sync.specs.history_the_Event_TheVariants.{Lost}
+use Rattle.array_fixed_sync.specs.history_the_LostCause_TheVariants.{Fault}
+use Rattle.array_fixed_sync.specs.history_Plain.{entries_of}
+use Rattle.array_fixed_sync.specs.crash_views_Regions.{DoWithout}
+use Rattle.array_fixed_sync.proofs.crash_views_Stands.{final-still}
+use Rattle.array_fixed_sync.specs.array_members_the_Work.{Work}
+use Rattle.array_fixed_sync.specs.array_members_Placed.{is_unassigned}
+use Rattle.array_fixed_sync.specs.array_members_Status.{stripes_of, rebuilt_of, vacant_count, spare_count, resync_left, role_left, recovery_left, left_of}
+use Rattle.array_fixed_sync.proofs.array_members_Still.{count-still}
 use Rattle.array_takeover_laws.specs.history_append_Losing.{role_loss, role_losses, spare_losses, losses_of}
-use Rattle.array_fixed_io.proofs.array_call_specs_StepsLeft.{recovery-more}
-use Rattle.array_fixed_io.specs.array_fixed_invariant_Still.{AreNoneMissing}
-use Rattle.array_fixed_io.proofs.array_fixed_Lowest.{none-counted}
+use Rattle.array_fixed_sync.proofs.array_call_specs_StepsLeft.{recovery-more}
+use Rattle.array_fixed_sync.specs.array_fixed_invariant_Still.{AreNoneMissing}
+use Rattle.array_fixed_sync.proofs.Lowest.{none-counted}
 
 -- no role is missing, so none too many are
 pub whole-does : (m : Members) → is_reshaping m.newest ≡ false → AreNoneMissing m → DoWithout m

@@ -3,10 +3,10 @@ use Rattle.std.proofs.Common.{◌≡◌, ℕ, ◌*◌, ◌<◌, ◌≤◌, List,
 use Rattle.array_takeover_laws.specs.raid_types_the_Refusal.{Refusal}
 use Rattle.array_takeover_laws.specs.raid_types_the_Who.{Who}
 use Rattle.array_takeover_laws.specs.raid_types_the_Shape.{Shape}
-use Rattle.array_fixed_io.specs.bank_the_Operation.{Operation}
-use Rattle.array_fixed_io.specs.bank_Given.{Given}
-use Rattle.array_fixed_io.specs.reshape_request_the_PhasesLeft.{PhasesLeft}
-use Rattle.array_fixed_io.specs.array_specs_Parts.{RunningParts}
+use Rattle.array_fixed_sync.specs.bank_the_Operation.{Operation}
+use Rattle.array_fixed_sync.specs.bank_Given.{Given}
+use Rattle.array_fixed_sync.specs.reshape_request_the_PhasesLeft.{PhasesLeft}
+use Rattle.array_fixed_sync.specs.array_specs_Parts.{RunningParts}
 use Rattle.array_takeover.specs.TakenOver.{IsUntaken, IsUntouched, IsLevelTaken}
 
 pub untaken-as : {B : Type 0} (to : Shape) (refusal : Refusal) (old old' : RunningParts B) → old ≡ old' → IsUntaken old'.parts.members to refusal → IsUntaken old.parts.members to refusal

@@ -7,24 +7,24 @@ use Rattle.array_takeover_laws.specs.raid_types_Shapes.{has_slot}
 use Rattle.array_takeover_laws.specs.raid_types_the_Shape.{Shape}
 use Rattle.array_takeover_laws.specs.raid_types_the_Role_TheVariants.{Missing}
 use Rattle.array_takeover_laws.proofs.raid_types_Tabulated.{length-tabulate, get_or-tabulate}
-use Rattle.array_fixed_io.specs.sb_specs_the_Change.{Change}
-use Rattle.array_fixed_io.specs.sb_specs_the_Give.{Give}
-use Rattle.array_fixed_io.specs.sb_specs_the_Give_TheVariants.{Same, Spare}
-use Rattle.array_fixed_io.specs.sb_specs_the_Give_TheVariants as give
-use Rattle.array_fixed_io.specs.sb_specs_the_Members.{Members}
-use Rattle.array_fixed_io.specs.sb_specs_Outcome.{planned_state}
-use Rattle.array_fixed_io.specs.sb_specs_Reading.{role_count, holder}
-use Rattle.array_fixed_io.specs.sb_specs_Reads.{has_spare}
-use Rattle.array_fixed_io.specs.sb_specs_Update.{give_of, planned_role, is_planned_spare}
-use Rattle.array_fixed_io.proofs.sb_read_laws_SaidLists.{role-holder}
-use Rattle.array_fixed_io.proofs.sb_read_laws_SaidSlots.{has-slots_below}
-use Rattle.array_fixed_io.proofs.crash_safety_laws_Kept.{give_of-same}
-use Rattle.array_fixed_io.proofs.crash_safety_laws_PlannedRoles.{planned-holds}
+use Rattle.array_fixed_sync.specs.sb_specs_the_Change.{Change}
+use Rattle.array_fixed_sync.specs.sb_specs_the_Give.{Give}
+use Rattle.array_fixed_sync.specs.sb_specs_the_Give_TheVariants.{Same, Spare}
+use Rattle.array_fixed_sync.specs.sb_specs_the_Give_TheVariants as give
+use Rattle.array_fixed_sync.specs.sb_specs_the_Members.{Members}
+use Rattle.array_fixed_sync.specs.sb_specs_Outcome.{planned_state}
+use Rattle.array_fixed_sync.specs.sb_specs_Reading.{role_count, holder}
+use Rattle.array_fixed_sync.specs.sb_specs_Reads.{has_spare}
+use Rattle.array_fixed_sync.specs.sb_specs_Update.{give_of, planned_role, is_planned_spare}
+use Rattle.array_fixed_sync.proofs.sb_read_laws_SaidLists.{role-holder}
+use Rattle.array_fixed_sync.proofs.sb_read_laws_SaidSlots.{has-slots_below}
+use Rattle.array_fixed_sync.proofs.crash_safety_laws_Kept.{give_of-same}
+use Rattle.array_fixed_sync.proofs.crash_safety_laws_PlannedRoles.{planned-holds}
 use Rattle.reshape_sb_takeover.specs.TakingOver.{level_give, taking_over, taken_plan}
-use Rattle.array_fixed_io.specs.array_members_Placed.{AreStillHeld}
-use Rattle.array_fixed_io.specs.array_members_Rebuilding.{Held, MayHold}
-use Rattle.array_fixed_io.specs.array_call_specs_Calls.{AreSparesFewer}
-use Rattle.array_fixed_io.proofs.array_fixed_Lowest.{lowest-found}
+use Rattle.array_fixed_sync.specs.array_members_Placed.{AreStillHeld}
+use Rattle.array_fixed_sync.specs.array_members_Rebuilding.{Held, MayHold}
+use Rattle.array_fixed_sync.specs.array_call_specs_Calls.{AreSparesFewer}
+use Rattle.array_fixed_sync.proofs.Lowest.{lowest-found}
 use Rattle.array_takeover.specs.TakenOver.{IsTakenSlot}
 
 none-role : {P : Type 0} (role : ℕ) → ◌≡◌ {A = Option ℕ} None (Some role) → P

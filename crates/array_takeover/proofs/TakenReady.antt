@@ -10,64 +10,64 @@ use Rattle.array_takeover_laws.specs.raid_types_the_Shape.{Shape}
 use Rattle.array_takeover_laws.specs.raid_types_the_Role_TheVariants.{Recovering}
 use Rattle.array_takeover_laws.specs.raid_types_the_Phase.{Phase}
 use Rattle.array_takeover_laws.specs.raid_types_the_Phase_TheVariants.{UpTo6, DownTo5}
-use Rattle.array_fixed_io.specs.bank_the_Operation.{Operation}
-use Rattle.array_fixed_io.specs.bank_Given.{Given, NeverFalls}
+use Rattle.array_fixed_sync.specs.bank_the_Operation.{Operation}
+use Rattle.array_fixed_sync.specs.bank_Given.{Given, NeverFalls}
 use Rattle.reshape_sb_takeover.proofs.raid_layout_Limits.{limited}
-use Rattle.array_fixed_io.specs.reshape_plan_Plans.{AreSound, last_shape, phases_steps}
-use Rattle.array_fixed_io.specs.sb_specs_the_Members.{Members}
-use Rattle.array_fixed_io.specs.sb_specs_Reading.{Scope, is_reshaping, shape_of, final_shape, list_length, role_count, role_state}
-use Rattle.array_fixed_io.specs.stripe_row_Rows.{reading_of, present, is_missing}
-use Rattle.array_fixed_io.specs.history_the_Entry.{Entry}
-use Rattle.array_fixed_io.specs.history_the_Event.{Event}
-use Rattle.array_fixed_io.specs.history_the_Event_TheVariants.{Lost, Step}
-use Rattle.array_fixed_io.specs.history_the_LostCause_TheVariants.{Fault}
-use Rattle.array_fixed_io.specs.history_the_StepKind_TheVariants.{TakenOver}
-use Rattle.array_fixed_io.specs.history_Fits.{is_lost_event}
-use Rattle.array_fixed_io.specs.history_Flat.{length_of}
-use Rattle.array_fixed_io.specs.history_Legal.{disturbs}
-use Rattle.array_fixed_io.specs.history_Plain.{entries_of}
-use Rattle.array_fixed_io.specs.history_Reshaped.{open_plans}
-use Rattle.array_fixed_io.specs.history_Sound.{OpensFit}
-use Rattle.array_fixed_io.specs.history_World.{World}
-use Rattle.array_fixed_io.specs.crash_views_Views.{Ledger}
-use Rattle.array_fixed_io.specs.crash_safety_laws_Changing.{IsSafeChange}
-use Rattle.array_fixed_io.specs.crash_safety_laws_Marking.{AreOthersPresent}
-use Rattle.array_fixed_io.specs.crash_safety_laws_Safety.{HasRoomLeft, IsRisen}
-use Rattle.array_fixed_io.specs.crash_safety_laws_Steady.{IsSafeOver, AreGoneTold}
-use Rattle.array_fixed_io.specs.crash_reshape_laws_Ends.{IsToldWith}
-use Rattle.array_fixed_io.specs.crash_reshape_laws_Takeovers.{IsTakenUp, IsTakenDown}
+use Rattle.array_fixed_sync.specs.reshape_plan_Plans.{AreSound, last_shape, phases_steps}
+use Rattle.array_fixed_sync.specs.sb_specs_the_Members.{Members}
+use Rattle.array_fixed_sync.specs.sb_specs_Reading.{Scope, is_reshaping, shape_of, final_shape, list_length, role_count, role_state}
+use Rattle.array_fixed_sync.specs.stripe_row_Rows.{reading_of, present, is_missing}
+use Rattle.array_fixed_sync.specs.history_the_Entry.{Entry}
+use Rattle.array_fixed_sync.specs.history_the_Event.{Event}
+use Rattle.array_fixed_sync.specs.history_the_Event_TheVariants.{Lost, Step}
+use Rattle.array_fixed_sync.specs.history_the_LostCause_TheVariants.{Fault}
+use Rattle.array_fixed_sync.specs.history_the_StepKind_TheVariants.{TakenOver}
+use Rattle.array_fixed_sync.specs.history_Fits.{is_lost_event}
+use Rattle.array_fixed_sync.specs.history_Flat.{length_of}
+use Rattle.array_fixed_sync.specs.history_Legal.{disturbs}
+use Rattle.array_fixed_sync.specs.history_Plain.{entries_of}
+use Rattle.array_fixed_sync.specs.history_Reshaped.{open_plans}
+use Rattle.array_fixed_sync.specs.history_Sound.{OpensFit}
+use Rattle.array_fixed_sync.specs.history_World.{World}
+use Rattle.array_fixed_sync.specs.crash_views_Views.{Ledger}
+use Rattle.array_fixed_sync.specs.crash_safety_laws_Changing.{IsSafeChange}
+use Rattle.array_fixed_sync.specs.crash_safety_laws_Marking.{AreOthersPresent}
+use Rattle.array_fixed_sync.specs.crash_safety_laws_Safety.{HasRoomLeft, IsRisen}
+use Rattle.array_fixed_sync.specs.crash_safety_laws_Steady.{IsSafeOver, AreGoneTold}
+use Rattle.array_fixed_sync.specs.crash_reshape_laws_Ends.{IsToldWith}
+use Rattle.array_fixed_sync.specs.crash_reshape_laws_Takeovers.{IsTakenUp, IsTakenDown}
 use Rattle.reshape_sb_takeover.specs.TakingOver.{IsTakenTo, CanTakeUp, CanTakeOver, taking_over, taken_plan}
 use Rattle.array_takeover_laws.proofs.TakenMembers.{taken-then, taken-long}
 use Rattle.array_takeover_laws.proofs.TakenStill.{IsTakenBy, taken-keeps}
-use Rattle.array_fixed_io.specs.array_members_the_Work.{Work}
-use Rattle.array_fixed_io.specs.array_members_Lacking.{AreLostSince, HaveFailedSince}
-use Rattle.array_fixed_io.specs.array_members_Moving.{Grows, IsMoved}
-use Rattle.array_fixed_io.specs.array_members_Numbers.{bears}
-use Rattle.array_fixed_io.specs.array_members_Placed.{is_unassigned}
-use Rattle.array_fixed_io.specs.array_members_Rebuilding.{AreSparesFree, Held}
-use Rattle.array_fixed_io.specs.array_members_Status.{left_of, resync_left, rebuilt_of, stripes_of}
-use Rattle.array_fixed_io.proofs.array_members_HeldRows.{missing-moved}
-use Rattle.array_fixed_io.proofs.array_members_MarkLaws.{few-planned}
+use Rattle.array_fixed_sync.specs.array_members_the_Work.{Work}
+use Rattle.array_fixed_sync.specs.array_members_Lacking.{AreLostSince, HaveFailedSince}
+use Rattle.array_fixed_sync.specs.array_members_Moving.{Grows, IsMoved}
+use Rattle.array_fixed_sync.specs.array_members_Numbers.{bears}
+use Rattle.array_fixed_sync.specs.array_members_Placed.{is_unassigned}
+use Rattle.array_fixed_sync.specs.array_members_Rebuilding.{AreSparesFree, Held}
+use Rattle.array_fixed_sync.specs.array_members_Status.{left_of, resync_left, rebuilt_of, stripes_of}
+use Rattle.array_fixed_sync.proofs.array_members_HeldRows.{missing-moved}
+use Rattle.array_fixed_sync.proofs.array_members_MarkLaws.{few-planned}
 use Rattle.array_takeover_laws.specs.history_append_Losing.{losses_of}
 use Rattle.array_takeover_laws.proofs.history_append_CallLaws.{all-losses}
 use Rattle.array_takeover_laws.proofs.history_append_PlainLaws.{one}
-use Rattle.array_fixed_io.specs.array_call_specs_Calls.{AreLossesOf, AreStepsFewer, IsLossBy, WasSpare, with_rebuilt}
-use Rattle.array_fixed_io.proofs.array_call_specs_NowLaws.{length-more}
-use Rattle.array_fixed_io.specs.reshape_request_the_PhasesLeft.{PhasesLeft}
-use Rattle.array_fixed_io.specs.reshape_request_Left.{phases_of}
-use Rattle.array_fixed_io.specs.history_invariant_Recorded.{IsCallGoing}
-use Rattle.array_fixed_io.specs.history_invariant_Safe.{world_in}
-use Rattle.array_fixed_io.specs.history_invariant_laws_Reliable.{IsReliable}
-use Rattle.array_fixed_io.proofs.history_invariant_laws_Plans.{ArePlannedTo}
-use Rattle.array_fixed_io.specs.array_specs_Parts.{still_left}
-use Rattle.array_fixed_io.specs.array_specs_Plans.{GoTo, turns_shape}
-use Rattle.array_fixed_io.proofs.array_specs_Called.{not_254}
-use Rattle.array_fixed_io.proofs.array_specs_Lengths.{IsLengthKept, behind-keeps}
-use Rattle.array_fixed_io.proofs.array_specs_VisibleLaws.{limit-kept}
-use Rattle.array_fixed_io.specs.array_fixed_invariant_Still.{AreNoneMissing}
-use Rattle.array_fixed_io.specs.array_fixed_laws_Ready.{IsReady}
-use Rattle.array_fixed_io.proofs.array_fixed_laws_Closing.{LeadTo, plans-of, ahead-none}
-use Rattle.array_fixed_io.proofs.array_fixed_laws_Plain.{IsLeftPlain, turned-plain, turns-behind}
+use Rattle.array_fixed_sync.specs.array_call_specs_Calls.{AreLossesOf, AreStepsFewer, IsLossBy, WasSpare, with_rebuilt}
+use Rattle.array_fixed_sync.proofs.array_call_specs_NowLaws.{length-more}
+use Rattle.array_fixed_sync.specs.reshape_request_the_PhasesLeft.{PhasesLeft}
+use Rattle.array_fixed_sync.specs.reshape_request_Left.{phases_of}
+use Rattle.array_fixed_sync.specs.history_invariant_Recorded.{IsCallGoing}
+use Rattle.array_fixed_sync.specs.history_invariant_Safe.{world_in}
+use Rattle.array_fixed_sync.specs.history_invariant_laws_Reliable.{IsReliable}
+use Rattle.array_fixed_sync.proofs.history_invariant_laws_Plans.{ArePlannedTo}
+use Rattle.array_fixed_sync.specs.array_specs_Parts.{still_left}
+use Rattle.array_fixed_sync.specs.array_specs_Plans.{GoTo, turns_shape}
+use Rattle.array_fixed_sync.proofs.array_specs_Called.{not_254}
+use Rattle.array_fixed_sync.proofs.array_specs_Lengths.{IsLengthKept, behind-keeps}
+use Rattle.array_fixed_sync.proofs.array_specs_VisibleLaws.{limit-kept}
+use Rattle.array_fixed_sync.specs.array_fixed_invariant_Still.{AreNoneMissing}
+use Rattle.array_fixed_sync.specs.array_fixed_laws_Ready.{IsReady}
+use Rattle.array_fixed_sync.proofs.array_fixed_laws_Closing.{LeadTo, plans-of, ahead-none}
+use Rattle.array_fixed_sync.proofs.array_fixed_laws_Plain.{IsLeftPlain, turned-plain, turns-behind}
 use Rattle.array_takeover.specs.TakenOver.{IsTakeoverNext, IsTakenSlot, work_then}
 use Rattle.array_takeover.proofs.Chosen.{IsSoundNext, sound-next, can-take}
 use Rattle.array_takeover.proofs.Behind.{live-old, count-new, vacant-told, lost-since, lost-few, recovers-then, missing-then}

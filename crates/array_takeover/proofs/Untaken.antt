@@ -3,21 +3,21 @@ use Rattle.std.proofs.Common.{◌≡◌, ◌≢◌, inl, inr, ℕ, Option, List,
 use Rattle.array_takeover_laws.specs.raid_types_the_Refusal.{Refusal}
 use Rattle.array_takeover_laws.specs.raid_types_the_Who.{Who}
 use Rattle.array_takeover_laws.specs.raid_types_the_Shape.{Shape}
-use Rattle.array_fixed_io.specs.bank_the_Operation.{Operation}
-use Rattle.array_fixed_io.specs.bank_Given.{Given}
-use Rattle.array_fixed_io.specs.sb_specs_the_Members.{Members}
-use Rattle.array_fixed_io.specs.sb_specs_Reading.{Scope}
-use Rattle.array_fixed_io.specs.history_the_Entry.{Entry}
-use Rattle.array_fixed_io.specs.history_the_Event_TheVariants.{Refused}
-use Rattle.array_fixed_io.specs.history_Plain.{entries_of}
-use Rattle.array_fixed_io.specs.array_members_the_Work.{Work}
-use Rattle.array_fixed_io.proofs.array_call_specs_KeptLaws.{left-lost}
-use Rattle.array_fixed_io.specs.history_invariant_Recorded.{IsCallGoing}
-use Rattle.array_fixed_io.specs.history_invariant_Safe.{world_in}
-use Rattle.array_fixed_io.proofs.array_specs_Called.{not_254}
-use Rattle.array_fixed_io.specs.array_fixed_invariant_Still.{IsStill}
-use Rattle.array_fixed_io.proofs.array_fixed_invariant_Refusals.{IsRefusedStill, refused-right}
-use Rattle.array_fixed_io.proofs.array_fixed_invariant_Resting.{resting-stands}
+use Rattle.array_fixed_sync.specs.bank_the_Operation.{Operation}
+use Rattle.array_fixed_sync.specs.bank_Given.{Given}
+use Rattle.array_fixed_sync.specs.sb_specs_the_Members.{Members}
+use Rattle.array_fixed_sync.specs.sb_specs_Reading.{Scope}
+use Rattle.array_fixed_sync.specs.history_the_Entry.{Entry}
+use Rattle.array_fixed_sync.specs.history_the_Event_TheVariants.{Refused}
+use Rattle.array_fixed_sync.specs.history_Plain.{entries_of}
+use Rattle.array_fixed_sync.specs.array_members_the_Work.{Work}
+use Rattle.array_fixed_sync.proofs.array_call_specs_KeptLaws.{left-lost}
+use Rattle.array_fixed_sync.specs.history_invariant_Recorded.{IsCallGoing}
+use Rattle.array_fixed_sync.specs.history_invariant_Safe.{world_in}
+use Rattle.array_fixed_sync.proofs.array_specs_Called.{not_254}
+use Rattle.array_fixed_sync.specs.array_fixed_invariant_Still.{IsStill}
+use Rattle.array_fixed_sync.proofs.array_fixed_invariant_Refusals.{IsRefusedStill, refused-right}
+use Rattle.array_fixed_sync.proofs.array_fixed_invariant_Resting.{resting-stands}
 use Rattle.array_takeover.specs.TakenOver.{IsUntaken}
 
 -- the refusal is right by any history

@@ -8,30 +8,30 @@ use Rattle.array_takeover_laws.specs.raid_types_the_Shape.{Shape}
 use Rattle.array_takeover_laws.specs.raid_types_the_Role_TheVariants.{Whole}
 use Rattle.array_takeover_laws.specs.raid_types_the_Phase.{Phase}
 use Rattle.array_takeover_laws.specs.raid_types_the_Phase_TheVariants.{UpTo6, DownTo5}
-use Rattle.array_fixed_io.specs.bank_the_Operation.{Operation}
-use Rattle.array_fixed_io.specs.bank_Given.{Given, NeverFalls}
-use Rattle.array_fixed_io.specs.sb_specs_the_Members.{Members}
-use Rattle.array_fixed_io.specs.sb_specs_Reading.{list_length, role_count, role_state}
-use Rattle.array_fixed_io.specs.sb_specs_Reads.{has_spare}
-use Rattle.array_fixed_io.specs.stripe_row_Rows.{reading_of, present}
-use Rattle.array_fixed_io.specs.history_the_Entry.{Entry}
-use Rattle.array_fixed_io.specs.history_the_Event_TheVariants.{Step, Refused}
-use Rattle.array_fixed_io.specs.history_the_StepKind_TheVariants.{TakenOver}
-use Rattle.array_fixed_io.specs.history_Plain.{entries_of}
-use Rattle.array_fixed_io.specs.crash_safety_laws_Marking.{AreOthersPresent}
+use Rattle.array_fixed_sync.specs.bank_the_Operation.{Operation}
+use Rattle.array_fixed_sync.specs.bank_Given.{Given, NeverFalls}
+use Rattle.array_fixed_sync.specs.sb_specs_the_Members.{Members}
+use Rattle.array_fixed_sync.specs.sb_specs_Reading.{list_length, role_count, role_state}
+use Rattle.array_fixed_sync.specs.sb_specs_Reads.{has_spare}
+use Rattle.array_fixed_sync.specs.stripe_row_Rows.{reading_of, present}
+use Rattle.array_fixed_sync.specs.history_the_Entry.{Entry}
+use Rattle.array_fixed_sync.specs.history_the_Event_TheVariants.{Step, Refused}
+use Rattle.array_fixed_sync.specs.history_the_StepKind_TheVariants.{TakenOver}
+use Rattle.array_fixed_sync.specs.history_Plain.{entries_of}
+use Rattle.array_fixed_sync.specs.crash_safety_laws_Marking.{AreOthersPresent}
 use Rattle.reshape_sb_takeover.specs.TakingOver.{IsTakenTo, taken_plan}
-use Rattle.array_fixed_io.specs.array_members_the_Work.{Work}
-use Rattle.array_fixed_io.specs.array_members_Lacking.{HaveRolesFailed}
-use Rattle.array_fixed_io.specs.array_members_Moving.{Grows}
-use Rattle.array_fixed_io.specs.array_members_Placed.{is_unassigned, AreStillHeld}
+use Rattle.array_fixed_sync.specs.array_members_the_Work.{Work}
+use Rattle.array_fixed_sync.specs.array_members_Lacking.{HaveRolesFailed}
+use Rattle.array_fixed_sync.specs.array_members_Moving.{Grows}
+use Rattle.array_fixed_sync.specs.array_members_Placed.{is_unassigned, AreStillHeld}
 use Rattle.array_takeover_laws.specs.history_append_Losing.{losses_of}
-use Rattle.array_fixed_io.specs.array_call_specs_Calls.{AreLossesOf, AreSparesFewer, AreStepsFewer, IsEndOf, with_rebuilt}
-use Rattle.array_fixed_io.specs.reshape_request_the_PhasesLeft.{PhasesLeft}
-use Rattle.array_fixed_io.specs.reshape_request_Asked.{lowest_missing}
-use Rattle.array_fixed_io.specs.array_specs_Parts.{RunningParts, still_left}
-use Rattle.array_fixed_io.specs.array_fixed_invariant_Still.{AreNoneMissing}
-use Rattle.array_fixed_io.specs.array_fixed_invariant_reshape_progress_Laws.{closed}
-use Rattle.array_fixed_io.specs.array_fixed_Rebuilding.{first_spare}
+use Rattle.array_fixed_sync.specs.array_call_specs_Calls.{AreLossesOf, AreSparesFewer, AreStepsFewer, IsEndOf, with_rebuilt}
+use Rattle.array_fixed_sync.specs.reshape_request_the_PhasesLeft.{PhasesLeft}
+use Rattle.array_fixed_sync.specs.reshape_request_Asked.{lowest_missing}
+use Rattle.array_fixed_sync.specs.array_specs_Parts.{RunningParts, still_left}
+use Rattle.array_fixed_sync.specs.array_fixed_invariant_Still.{AreNoneMissing}
+use Rattle.array_fixed_sync.specs.array_fixed_invariant_reshape_progress_Laws.{closed}
+use Rattle.array_fixed_sync.specs.Rebuilding.{first_spare}
 
 -- ---- when
 

@@ -1,13 +1,13 @@
 //! Which slot a takeover changes, or why it isn't done.
 
 ghost use Rattle.std.specs.Prelude.{◌≡◌, ◌⊎◌, ◌<◌, ◌≤◌, length, MatchOption, Some, IfOk, IfErr};
-ghost use Rattle.array_fixed_io.specs.sb_specs_Reading.{role_count, role_state};
-ghost use Rattle.array_fixed_io.specs.stripe_row_Rows.{reading_of};
-ghost use Rattle.array_fixed_io.specs.reshape_request_Asked.{lowest_missing};
-ghost use Rattle.array_fixed_io.specs.array_fixed_invariant_Still.{AreNoneMissing};
+ghost use Rattle.array_fixed_sync.specs.sb_specs_Reading.{role_count, role_state};
+ghost use Rattle.array_fixed_sync.specs.stripe_row_Rows.{reading_of};
+ghost use Rattle.array_fixed_sync.specs.reshape_request_Asked.{lowest_missing};
+ghost use Rattle.array_fixed_sync.specs.array_fixed_invariant_Still.{AreNoneMissing};
 ghost use Rattle.array_takeover.specs.TakenOver.{IsTakenSlot, IsUntaken};
 
-use array_fixed_io::{Members, first_spare, is_missing};
+use array_fixed_sync::{Members, first_spare, is_missing};
 use array_takeover_laws::{Refusal, Role, Shape};
 
 // The lowest role that isn't whole.

@@ -4,5 +4,7 @@
 mod choosing;
 mod taking;
 
-pub use array_fixed_io::{Epoch, Event, Members, PhasesLeft, Pieces, read, write};
+pub use array_fixed_sync::{
+    Epoch, Event, Members, PhasesLeft, Pieces, first_recovering, read, still_step, write,
+};
 pub use taking::take_over;

@@ -4,28 +4,28 @@ ghost use Rattle.std.specs.Prelude.{◌≡◌, ◌≢◌, ◌+◌, ◌⊎◌, �
 ghost use Rattle.std.specs.List.{list_any};
 ghost use Rattle.array_takeover_laws.specs.raid_types_Shapes.{has_slot, is_valid_shape};
 ghost use Rattle.array_takeover_laws.specs.raid_types_the_Shape.{Shape as AShape};
-ghost use Rattle.array_fixed_io.specs.reshape_plan_Plans.{AreSound};
-ghost use Rattle.array_fixed_io.specs.sb_specs_Reading.{shape_of, role_count, is_reshaping};
-ghost use Rattle.array_fixed_io.specs.stripe_row_Rows.{reading_of};
-ghost use Rattle.array_fixed_io.specs.history_the_Event_TheVariants.{Step, Refused};
-ghost use Rattle.array_fixed_io.specs.history_the_StepKind_TheVariants.{TakenOver as HasTaken};
-ghost use Rattle.array_fixed_io.specs.history_Plain.{entries_of};
-ghost use Rattle.array_fixed_io.specs.crash_views_Regions.{AreShapesFit};
-ghost use Rattle.array_fixed_io.specs.array_members_Placed.{is_unassigned};
-ghost use Rattle.array_fixed_io.specs.array_members_Status.{left_of, stripes_of};
+ghost use Rattle.array_fixed_sync.specs.reshape_plan_Plans.{AreSound};
+ghost use Rattle.array_fixed_sync.specs.sb_specs_Reading.{shape_of, role_count, is_reshaping};
+ghost use Rattle.array_fixed_sync.specs.stripe_row_Rows.{reading_of};
+ghost use Rattle.array_fixed_sync.specs.history_the_Event_TheVariants.{Step, Refused};
+ghost use Rattle.array_fixed_sync.specs.history_the_StepKind_TheVariants.{TakenOver as HasTaken};
+ghost use Rattle.array_fixed_sync.specs.history_Plain.{entries_of};
+ghost use Rattle.array_fixed_sync.specs.crash_views_Regions.{AreShapesFit};
+ghost use Rattle.array_fixed_sync.specs.array_members_Placed.{is_unassigned};
+ghost use Rattle.array_fixed_sync.specs.array_members_Status.{left_of, stripes_of};
 ghost use Rattle.array_takeover_laws.specs.history_append_Losing.{losses_of};
-ghost use Rattle.array_fixed_io.specs.array_call_specs_Kept.{scope_in};
-ghost use Rattle.array_fixed_io.specs.reshape_request_Left.{phases_of};
-ghost use Rattle.array_fixed_io.specs.history_invariant_Recorded.{IsCallGoing};
-ghost use Rattle.array_fixed_io.specs.array_specs_Calls.{moving_world};
-ghost use Rattle.array_fixed_io.specs.array_specs_Parts.{RunningParts, still_left};
-ghost use Rattle.array_fixed_io.specs.array_specs_Plans.{ArePlansKept, turns_shape};
-ghost use Rattle.array_fixed_io.specs.array_fixed_laws_Ready.{IsReady};
-ghost use Rattle.array_fixed_io.specs.array_fixed_invariant_reshape_progress_Laws.{closed};
+ghost use Rattle.array_fixed_sync.specs.array_call_specs_Kept.{scope_in};
+ghost use Rattle.array_fixed_sync.specs.reshape_request_Left.{phases_of};
+ghost use Rattle.array_fixed_sync.specs.history_invariant_Recorded.{IsCallGoing};
+ghost use Rattle.array_fixed_sync.specs.array_specs_Calls.{moving_world};
+ghost use Rattle.array_fixed_sync.specs.array_specs_Parts.{RunningParts, still_left};
+ghost use Rattle.array_fixed_sync.specs.array_specs_Plans.{ArePlansKept, turns_shape};
+ghost use Rattle.array_fixed_sync.specs.array_fixed_laws_Ready.{IsReady};
+ghost use Rattle.array_fixed_sync.specs.array_fixed_invariant_reshape_progress_Laws.{closed};
 ghost use Rattle.array_takeover.specs.TakenOver.{IsTakeoverNext, IsUntaken, IsUntouched, IsLevelTaken, work_then};
 
 use crate::choosing::taken_slot;
-use array_fixed_io::{
+use array_fixed_sync::{
     Array, Bank, Entries, Epoch, Event, Members, PhasesLeft, Pieces, StepKind, Work, planned_left,
     set_rebuilt, steps_left, unassigned_roles,
 };

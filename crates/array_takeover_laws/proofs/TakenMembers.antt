@@ -1,29 +1,29 @@
 -- The members behind a takeover, from those that its update plans: the list stands on them as before, and is as long.
 use Rattle.std.proofs.Common.{◌≡◌, ◌⊎◌, inl, inr, ℕ, ◌*◌, false, sym, ◌∙◌, ap, refl, arith, None}
 use Rattle.std.specs.Prelude.{IsTrue}
-use Rattle.array_fixed_invariant.specs.raid_types_Sectors.{Sector}
-use Rattle.array_fixed_invariant.specs.raid_types_Shapes.{data_disks, is_valid_shape}
-use Rattle.array_fixed_invariant.specs.raid_types_the_Shape.{Shape}
-use Rattle.array_fixed_invariant.specs.bank_Given.{Given}
-use Rattle.array_fixed_invariant.specs.bank_Tape.{Contents}
-use Rattle.array_fixed_invariant.specs.reshape_plan_Plans.{taken_up}
-use Rattle.array_fixed_invariant.specs.sb_specs_the_Members.{Members}
-use Rattle.array_fixed_invariant.specs.sb_specs_Reading.{Scope, is_reshaping, shape_of, list_length}
-use Rattle.array_fixed_invariant.specs.crash_views_Regions.{ArePlaced}
-use Rattle.array_fixed_invariant.specs.crash_views_Windows.{ListStands, RowsStand}
-use Rattle.array_fixed_invariant.proofs.crash_views_Stands.{list-still}
-use Rattle.array_fixed_invariant.specs.crash_safety_laws_Marking.{AreOthersPresent}
-use Rattle.array_fixed_invariant.specs.crash_safety_laws_Steady.{AreUnlost}
-use Rattle.array_fixed_invariant.specs.crash_reshape_laws_Ends.{ArePlacesAlike}
-use Rattle.array_fixed_invariant.specs.crash_reshape_laws_Takeovers.{IsTakenUp, IsTakenDown}
-use Rattle.array_fixed_invariant.proofs.crash_reshape_laws_EndLaws.{places-alike-stand}
-use Rattle.array_fixed_invariant.proofs.crash_reshape_laws_TakenShapes.{taken-over}
-use Rattle.array_fixed_invariant.proofs.crash_reshape_laws_Takeovers.{place-alike}
+use Rattle.array_reshaping_end_laws.specs.raid_types_Sectors.{Sector}
+use Rattle.array_reshaping_end_laws.specs.raid_types_Shapes.{data_disks, is_valid_shape}
+use Rattle.array_reshaping_end_laws.specs.raid_types_the_Shape.{Shape}
+use Rattle.array_reshaping_end_laws.specs.bank_Given.{Given}
+use Rattle.array_reshaping_end_laws.specs.bank_Tape.{Contents}
+use Rattle.array_reshaping_end_laws.specs.reshape_plan_Plans.{taken_up}
+use Rattle.array_reshaping_end_laws.specs.sb_specs_the_Members.{Members}
+use Rattle.array_reshaping_end_laws.specs.sb_specs_Reading.{Scope, is_reshaping, shape_of, list_length}
+use Rattle.array_reshaping_end_laws.specs.crash_views_Regions.{ArePlaced}
+use Rattle.array_reshaping_end_laws.specs.crash_views_Windows.{ListStands, RowsStand}
+use Rattle.array_reshaping_end_laws.proofs.crash_views_Stands.{list-still}
+use Rattle.array_reshaping_end_laws.specs.crash_safety_laws_Marking.{AreOthersPresent}
+use Rattle.array_reshaping_end_laws.specs.crash_safety_laws_Steady.{AreUnlost}
+use Rattle.array_reshaping_end_laws.specs.crash_reshape_laws_Ends.{ArePlacesAlike}
+use Rattle.array_reshaping_end_laws.specs.crash_reshape_laws_Takeovers.{IsTakenUp, IsTakenDown}
+use Rattle.array_reshaping_end_laws.proofs.crash_reshape_laws_EndLaws.{places-alike-stand}
+use Rattle.array_reshaping_end_laws.proofs.crash_reshape_laws_TakenShapes.{taken-over}
+use Rattle.array_reshaping_end_laws.proofs.crash_reshape_laws_Takeovers.{place-alike}
 use Rattle.array_reshaping_end_laws.proofs.sb_safe_updates_Under.{shown-moved, shown-rows-moved}
-use Rattle.array_fixed_invariant.specs.array_members_Moving.{IsMoved}
-use Rattle.array_fixed_invariant.specs.array_members_Placed.{IsPlaced}
-use Rattle.array_fixed_invariant.proofs.array_members_HeldRows.{held-moved, missing-moved}
-use Rattle.array_fixed_invariant.proofs.array_members_MovedLaws.{moved-same}
+use Rattle.array_reshaping_end_laws.specs.array_members_Moving.{IsMoved}
+use Rattle.array_reshaping_end_laws.specs.array_members_Placed.{IsPlaced}
+use Rattle.array_reshaping_end_laws.proofs.array_members_HeldRows.{held-moved, missing-moved}
+use Rattle.array_reshaping_end_laws.proofs.array_members_MovedLaws.{moved-same}
 use Rattle.array_reshaping_end_laws.proofs.EndedRows.{alone_of, alone-placed}
 
 -- it goes one way or the other

@@ -3,52 +3,52 @@ use Rattle.std.proofs.Common.{◌≡◌, ◌⊎◌, ℕ, ◌+◌, ◌-◌, ◌*�
 use Rattle.std.specs.Prelude.{IsFalse, IfSome, is_some, fold, ⊤}
 use Rattle.std.specs.List.{list_any}
 use Rattle.std.proofs.lemmas.List.Folds.{list_any-append}
-use Rattle.array_fixed_invariant.specs.raid_types_the_Who.{Who}
-use Rattle.array_fixed_invariant.specs.raid_types_the_Role_TheVariants.{Recovering}
-use Rattle.array_fixed_invariant.specs.bank_the_Operation.{Operation}
-use Rattle.array_fixed_invariant.specs.bank_Given.{Given}
-use Rattle.array_fixed_invariant.specs.raid_parity_Rows.{IsSector}
-use Rattle.array_fixed_invariant.specs.sb_specs_the_Members.{Members}
-use Rattle.array_fixed_invariant.specs.sb_specs_Reading.{Scope, is_clean, shape_of, role_count, role_state}
-use Rattle.array_fixed_invariant.specs.stripe_row_Rows.{reading_of, present, is_missing}
-use Rattle.array_fixed_invariant.specs.history_the_Entry.{Entry}
-use Rattle.array_fixed_invariant.specs.history_the_Event.{Event}
-use Rattle.array_fixed_invariant.specs.history_the_Event_TheVariants.{Step}
-use Rattle.array_fixed_invariant.specs.history_the_StepKind_TheVariants.{TakenOver}
-use Rattle.array_fixed_invariant.specs.history_Epochs.{HasRoomForEvents}
-use Rattle.array_fixed_invariant.specs.history_Flat.{now}
-use Rattle.array_fixed_invariant.specs.history_Legal.{disturbs, left_after, told_left}
-use Rattle.array_fixed_invariant.specs.history_Losses.{is_unsynced}
-use Rattle.array_fixed_invariant.specs.history_Plain.{entries_of}
-use Rattle.array_fixed_invariant.specs.history_Reshaped.{open_plans}
-use Rattle.array_fixed_invariant.specs.history_Sound.{OpensFit}
-use Rattle.array_fixed_invariant.specs.history_World.{World, opening_list}
-use Rattle.array_fixed_invariant.specs.crash_views_Regions.{DoWithout}
-use Rattle.array_fixed_invariant.specs.crash_views_Views.{Ledger}
-use Rattle.array_fixed_invariant.specs.crash_safety_laws_Changing.{IsSafeChange}
-use Rattle.array_fixed_invariant.specs.crash_safety_laws_Marking.{AreOthersPresent}
-use Rattle.array_fixed_invariant.specs.crash_safety_laws_Safety.{HasLiveSlot, HasRoomLeft, IsRisen}
-use Rattle.array_fixed_invariant.specs.crash_safety_laws_Steady.{IsSafeOver, AreGoneTold}
-use Rattle.array_fixed_invariant.specs.crash_reshape_laws_Ends.{IsToldWith}
-use Rattle.array_fixed_invariant.proofs.crash_reshape_laws_GrownLaws.{row-list}
-use Rattle.array_fixed_invariant.specs.array_members_the_Work.{Work}
-use Rattle.array_fixed_invariant.specs.array_members_Moving.{Grows, IsMoved}
-use Rattle.array_fixed_invariant.specs.array_members_Numbers.{bears}
-use Rattle.array_fixed_invariant.specs.array_members_Rebuilding.{AreSparesFree}
-use Rattle.array_fixed_invariant.specs.array_members_Status.{rebuilt_of, stripes_of}
-use Rattle.array_fixed_invariant.proofs.array_members_Fit.{valid}
-use Rattle.array_fixed_invariant.specs.history_append_Losing.{losses_of}
-use Rattle.array_fixed_invariant.proofs.history_append_CallLaws.{losses-are}
-use Rattle.array_fixed_invariant.proofs.history_append_LeftLaws.{left-behind, fold-left}
-use Rattle.array_fixed_invariant.specs.history_invariant_Recorded.{IsCallGoing}
-use Rattle.array_fixed_invariant.specs.history_invariant_Safe.{world_in, is_taken_over, IsFilledRight, IsSafeHistory}
+use Rattle.array_reshaping_end_laws.specs.raid_types_the_Who.{Who}
+use Rattle.array_reshaping_end_laws.specs.raid_types_the_Role_TheVariants.{Recovering}
+use Rattle.array_reshaping_end_laws.specs.bank_the_Operation.{Operation}
+use Rattle.array_reshaping_end_laws.specs.bank_Given.{Given}
+use Rattle.array_reshaping_end_laws.specs.raid_parity_Rows.{IsSector}
+use Rattle.array_reshaping_end_laws.specs.sb_specs_the_Members.{Members}
+use Rattle.array_reshaping_end_laws.specs.sb_specs_Reading.{Scope, is_clean, shape_of, role_count, role_state}
+use Rattle.array_reshaping_end_laws.specs.stripe_row_Rows.{reading_of, present, is_missing}
+use Rattle.array_reshaping_end_laws.specs.history_the_Entry.{Entry}
+use Rattle.array_reshaping_end_laws.specs.history_the_Event.{Event}
+use Rattle.array_reshaping_end_laws.specs.history_the_Event_TheVariants.{Step}
+use Rattle.array_reshaping_end_laws.specs.history_the_StepKind_TheVariants.{TakenOver}
+use Rattle.array_reshaping_end_laws.specs.history_Epochs.{HasRoomForEvents}
+use Rattle.array_reshaping_end_laws.specs.history_Flat.{now}
+use Rattle.array_reshaping_end_laws.specs.history_Legal.{disturbs, left_after, told_left}
+use Rattle.array_reshaping_end_laws.specs.history_Losses.{is_unsynced}
+use Rattle.array_reshaping_end_laws.specs.history_Plain.{entries_of}
+use Rattle.array_reshaping_end_laws.specs.history_Reshaped.{open_plans}
+use Rattle.array_reshaping_end_laws.specs.history_Sound.{OpensFit}
+use Rattle.array_reshaping_end_laws.specs.history_World.{World, opening_list}
+use Rattle.array_reshaping_end_laws.specs.crash_views_Regions.{DoWithout}
+use Rattle.array_reshaping_end_laws.specs.crash_views_Views.{Ledger}
+use Rattle.array_reshaping_end_laws.specs.crash_safety_laws_Changing.{IsSafeChange}
+use Rattle.array_reshaping_end_laws.specs.crash_safety_laws_Marking.{AreOthersPresent}
+use Rattle.array_reshaping_end_laws.specs.crash_safety_laws_Safety.{HasLiveSlot, HasRoomLeft, IsRisen}
+use Rattle.array_reshaping_end_laws.specs.crash_safety_laws_Steady.{IsSafeOver, AreGoneTold}
+use Rattle.array_reshaping_end_laws.specs.crash_reshape_laws_Ends.{IsToldWith}
+use Rattle.array_reshaping_end_laws.proofs.crash_reshape_laws_GrownLaws.{row-list}
+use Rattle.array_reshaping_end_laws.specs.array_members_the_Work.{Work}
+use Rattle.array_reshaping_end_laws.specs.array_members_Moving.{Grows, IsMoved}
+use Rattle.array_reshaping_end_laws.specs.array_members_Numbers.{bears}
+use Rattle.array_reshaping_end_laws.specs.array_members_Rebuilding.{AreSparesFree}
+use Rattle.array_reshaping_end_laws.specs.array_members_Status.{rebuilt_of, stripes_of}
+use Rattle.array_reshaping_end_laws.proofs.array_members_Fit.{valid}
+use Rattle.array_reshaping_end_laws.specs.history_append_Losing.{losses_of}
+use Rattle.array_reshaping_end_laws.proofs.history_append_CallLaws.{losses-are}
+use Rattle.array_reshaping_end_laws.proofs.history_append_LeftLaws.{left-behind, fold-left}
+use Rattle.array_reshaping_end_laws.specs.history_invariant_Recorded.{IsCallGoing}
+use Rattle.array_reshaping_end_laws.specs.history_invariant_Safe.{world_in, is_taken_over, IsFilledRight, IsSafeHistory}
 use Rattle.array_reshaping_end_laws.specs.history_invariant_laws_Reliable.{IsReliable}
 use Rattle.array_reshaping_end_laws.proofs.history_invariant_laws_Behind.{IsAmong}
 use Rattle.array_reshaping_end_laws.proofs.history_invariant_laws_Plans.{ArePlannedTo}
 use Rattle.array_reshaping_end_laws.specs.array_reshaping_invariant_Moving.{IsStillKept}
-use Rattle.array_fixed_invariant.specs.Still.{AreAtRest, HasListStood, IsStill}
-use Rattle.array_fixed_invariant.proofs.Bridges.{stands-kept}
-use Rattle.array_fixed_invariant.proofs.Stood.{shown-list, shown-rows, sector-inside}
+use Rattle.array_reshaping_end_laws.specs.array_fixed_invariant_Still.{AreAtRest, HasListStood, IsStill}
+use Rattle.array_reshaping_end_laws.proofs.array_fixed_invariant_Bridges.{stands-kept}
+use Rattle.array_reshaping_end_laws.proofs.array_fixed_invariant_Stood.{shown-list, shown-rows, sector-inside}
 use Rattle.array_takeover_laws.proofs.TakenMembers.{IsTaken, still-then}
 use Rattle.array_takeover_laws.proofs.Taking.{IsTakingCall, taken-still, taken-gone, taken-levelled, taken-unclean, taken-unsynced, taken-past, taken-listed, taken-recorded, taken-safe}
 

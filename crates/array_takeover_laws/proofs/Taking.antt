@@ -7,62 +7,62 @@ use Rattle.std.specs.Option.{option_map_or}
 use Rattle.std.proofs.lemmas.Bool.Decides.{nat_tests}
 use Rattle.std.proofs.lemmas.List.Folds.{list_any-append}
 use Rattle.std.proofs.lemmas.List.Sums.{fold-append}
-use Rattle.array_fixed_invariant.specs.raid_types_Sectors.{Sector}
-use Rattle.array_fixed_invariant.specs.raid_types_Shapes.{tolerance, tolerance_of}
-use Rattle.array_fixed_invariant.specs.raid_types_the_Who.{Who}
-use Rattle.array_fixed_invariant.specs.raid_types_the_Shape.{Shape}
-use Rattle.array_fixed_invariant.specs.bank_the_Operation.{Operation}
-use Rattle.array_fixed_invariant.specs.bank_Given.{Given}
-use Rattle.array_fixed_invariant.specs.bank_Tape.{IsIn, disk}
-use Rattle.array_fixed_invariant.specs.sb_codec_the_Sb.{Sb}
-use Rattle.array_fixed_invariant.specs.sb_specs_the_Members.{Members}
-use Rattle.array_fixed_invariant.specs.sb_specs_Reading.{Scope, Reading, reading, is_reshaping, shape_of, final_shape, list_length, role_count}
-use Rattle.array_fixed_invariant.specs.stripe_row_Rows.{reading_of, present, is_missing}
-use Rattle.array_fixed_invariant.specs.history_the_Entry.{Entry}
-use Rattle.array_fixed_invariant.specs.history_the_Event.{Event}
-use Rattle.array_fixed_invariant.specs.history_the_Event_TheVariants.{Lost, SpareLost, Step}
-use Rattle.array_fixed_invariant.specs.history_the_LostCause_TheVariants.{Fault}
-use Rattle.array_fixed_invariant.specs.history_the_StepKind_TheVariants.{TakenOver}
-use Rattle.array_fixed_invariant.specs.history_Epochs.{HasRoomForEvents}
-use Rattle.array_fixed_invariant.specs.history_Flat.{length_of, values_of, values_after, now}
-use Rattle.array_fixed_invariant.specs.history_Legal.{call_before, disturbs, level_after, level_at, told_left}
-use Rattle.array_fixed_invariant.specs.history_Losses.{is_gone_after, is_this, is_unsynced, last_of_six, loses, takes, unsettles}
-use Rattle.array_fixed_invariant.specs.history_OneShape.{is_lost, is_unsettled}
-use Rattle.array_fixed_invariant.specs.history_Plain.{entries_of}
-use Rattle.array_fixed_invariant.specs.history_Reshaped.{behind, comes_with_step, open_plans, ArePlansDone, IsConsistentAt, IsReshapedBy}
-use Rattle.array_fixed_invariant.specs.history_Sound.{OpensFit}
-use Rattle.array_fixed_invariant.specs.history_World.{World, reading_at, opening_list}
-use Rattle.array_fixed_invariant.proofs.history_SoundLaws.{fit-before}
-use Rattle.array_fixed_invariant.specs.crash_views_Regions.{DoWithout}
-use Rattle.array_fixed_invariant.specs.crash_views_Views.{Ledger}
-use Rattle.array_fixed_invariant.proofs.crash_views_Alike.{shape-alike}
-use Rattle.array_fixed_invariant.proofs.crash_views_Stands.{final-still}
-use Rattle.array_fixed_invariant.specs.crash_safety_laws_Changing.{IsSafeChange}
-use Rattle.array_fixed_invariant.specs.crash_safety_laws_Marking.{AreOthersPresent}
-use Rattle.array_fixed_invariant.specs.crash_safety_laws_Safety.{HasLiveSlot, HasRoomLeft, IsRisen}
-use Rattle.array_fixed_invariant.specs.crash_safety_laws_Steady.{AreUnlost, IsMoreTold, IsSafeOver, IsNamedNow, AreGoneTold}
-use Rattle.array_fixed_invariant.proofs.crash_safety_laws_Steady.{held-read}
-use Rattle.array_fixed_invariant.specs.crash_reshape_laws_Ends.{IsToldWith}
-use Rattle.array_fixed_invariant.specs.array_members_Moving.{IsMoved}
-use Rattle.array_fixed_invariant.proofs.array_members_Fit.{list-alike, count-alike, valid}
-use Rattle.array_fixed_invariant.proofs.array_members_HeldRows.{missing-moved}
-use Rattle.array_fixed_invariant.proofs.array_members_SoundViews.{throughout-changed}
-use Rattle.array_fixed_invariant.specs.history_append_Losing.{losses_of}
-use Rattle.array_fixed_invariant.proofs.history_append_CallLaws.{AreLossEvents, losses-are}
-use Rattle.array_fixed_invariant.specs.history_invariant_Recorded.{IsHistoryKept, IsLegalCall, IsReshapedCall, IsCallGoing, entry_of, ends_reshape, gives_some}
-use Rattle.array_fixed_invariant.specs.history_invariant_Safe.{world_in, IsFilledRight, IsSafeHistory}
-use Rattle.array_fixed_invariant.specs.history_invariant_Told.{told_now, told_by}
-use Rattle.array_fixed_invariant.proofs.history_invariant_Calls.{now-live}
-use Rattle.array_fixed_invariant.proofs.history_invariant_Entered.{AreAdding, told-adding, settle-none, values-more, values-adding, length-adding, gone-was, gone-lost}
-use Rattle.array_fixed_invariant.proofs.history_invariant_Growing.{reading-grown, opening-grown, gone-grown, unsynced-grown, now-grown, room-before, room-now}
-use Rattle.array_fixed_invariant.proofs.history_invariant_KeptCalls.{kept-call}
-use Rattle.array_fixed_invariant.proofs.history_invariant_Ledgers.{any-gone, unclean-now}
-use Rattle.array_fixed_invariant.proofs.history_invariant_Lengths.{now-drawn}
-use Rattle.array_fixed_invariant.proofs.history_invariant_Longer.{regains-none}
-use Rattle.array_fixed_invariant.proofs.history_invariant_Reshapes.{call-ends_none}
-use Rattle.array_fixed_invariant.proofs.history_invariant_Tests.{or-left, or-right}
-use Rattle.array_fixed_invariant.proofs.history_invariant_Turned.{filled-before}
-use Rattle.array_fixed_invariant.proofs.history_invariant_Turns.{either-call}
+use Rattle.array_reshaping_end_laws.specs.raid_types_Sectors.{Sector}
+use Rattle.array_reshaping_end_laws.specs.raid_types_Shapes.{tolerance, tolerance_of}
+use Rattle.array_reshaping_end_laws.specs.raid_types_the_Who.{Who}
+use Rattle.array_reshaping_end_laws.specs.raid_types_the_Shape.{Shape}
+use Rattle.array_reshaping_end_laws.specs.bank_the_Operation.{Operation}
+use Rattle.array_reshaping_end_laws.specs.bank_Given.{Given}
+use Rattle.array_reshaping_end_laws.specs.bank_Tape.{IsIn, disk}
+use Rattle.array_reshaping_end_laws.specs.sb_codec_the_Sb.{Sb}
+use Rattle.array_reshaping_end_laws.specs.sb_specs_the_Members.{Members}
+use Rattle.array_reshaping_end_laws.specs.sb_specs_Reading.{Scope, Reading, reading, is_reshaping, shape_of, final_shape, list_length, role_count}
+use Rattle.array_reshaping_end_laws.specs.stripe_row_Rows.{reading_of, present, is_missing}
+use Rattle.array_reshaping_end_laws.specs.history_the_Entry.{Entry}
+use Rattle.array_reshaping_end_laws.specs.history_the_Event.{Event}
+use Rattle.array_reshaping_end_laws.specs.history_the_Event_TheVariants.{Lost, SpareLost, Step}
+use Rattle.array_reshaping_end_laws.specs.history_the_LostCause_TheVariants.{Fault}
+use Rattle.array_reshaping_end_laws.specs.history_the_StepKind_TheVariants.{TakenOver}
+use Rattle.array_reshaping_end_laws.specs.history_Epochs.{HasRoomForEvents}
+use Rattle.array_reshaping_end_laws.specs.history_Flat.{length_of, values_of, values_after, now}
+use Rattle.array_reshaping_end_laws.specs.history_Legal.{call_before, disturbs, level_after, level_at, told_left}
+use Rattle.array_reshaping_end_laws.specs.history_Losses.{is_gone_after, is_this, is_unsynced, last_of_six, loses, takes, unsettles}
+use Rattle.array_reshaping_end_laws.specs.history_OneShape.{is_lost, is_unsettled}
+use Rattle.array_reshaping_end_laws.specs.history_Plain.{entries_of}
+use Rattle.array_reshaping_end_laws.specs.history_Reshaped.{behind, comes_with_step, open_plans, ArePlansDone, IsConsistentAt, IsReshapedBy}
+use Rattle.array_reshaping_end_laws.specs.history_Sound.{OpensFit}
+use Rattle.array_reshaping_end_laws.specs.history_World.{World, reading_at, opening_list}
+use Rattle.array_reshaping_end_laws.proofs.history_SoundLaws.{fit-before}
+use Rattle.array_reshaping_end_laws.specs.crash_views_Regions.{DoWithout}
+use Rattle.array_reshaping_end_laws.specs.crash_views_Views.{Ledger}
+use Rattle.array_reshaping_end_laws.proofs.crash_views_Alike.{shape-alike}
+use Rattle.array_reshaping_end_laws.proofs.crash_views_Stands.{final-still}
+use Rattle.array_reshaping_end_laws.specs.crash_safety_laws_Changing.{IsSafeChange}
+use Rattle.array_reshaping_end_laws.specs.crash_safety_laws_Marking.{AreOthersPresent}
+use Rattle.array_reshaping_end_laws.specs.crash_safety_laws_Safety.{HasLiveSlot, HasRoomLeft, IsRisen}
+use Rattle.array_reshaping_end_laws.specs.crash_safety_laws_Steady.{AreUnlost, IsMoreTold, IsSafeOver, IsNamedNow, AreGoneTold}
+use Rattle.array_reshaping_end_laws.proofs.crash_safety_laws_Steady.{held-read}
+use Rattle.array_reshaping_end_laws.specs.crash_reshape_laws_Ends.{IsToldWith}
+use Rattle.array_reshaping_end_laws.specs.array_members_Moving.{IsMoved}
+use Rattle.array_reshaping_end_laws.proofs.array_members_Fit.{list-alike, count-alike, valid}
+use Rattle.array_reshaping_end_laws.proofs.array_members_HeldRows.{missing-moved}
+use Rattle.array_reshaping_end_laws.proofs.array_members_SoundViews.{throughout-changed}
+use Rattle.array_reshaping_end_laws.specs.history_append_Losing.{losses_of}
+use Rattle.array_reshaping_end_laws.proofs.history_append_CallLaws.{AreLossEvents, losses-are}
+use Rattle.array_reshaping_end_laws.specs.history_invariant_Recorded.{IsHistoryKept, IsLegalCall, IsReshapedCall, IsCallGoing, entry_of, ends_reshape, gives_some}
+use Rattle.array_reshaping_end_laws.specs.history_invariant_Safe.{world_in, IsFilledRight, IsSafeHistory}
+use Rattle.array_reshaping_end_laws.specs.history_invariant_Told.{told_now, told_by}
+use Rattle.array_reshaping_end_laws.proofs.history_invariant_Calls.{now-live}
+use Rattle.array_reshaping_end_laws.proofs.history_invariant_Entered.{AreAdding, told-adding, settle-none, values-more, values-adding, length-adding, gone-was, gone-lost}
+use Rattle.array_reshaping_end_laws.proofs.history_invariant_Growing.{reading-grown, opening-grown, gone-grown, unsynced-grown, now-grown, room-before, room-now}
+use Rattle.array_reshaping_end_laws.proofs.history_invariant_KeptCalls.{kept-call}
+use Rattle.array_reshaping_end_laws.proofs.history_invariant_Ledgers.{any-gone, unclean-now}
+use Rattle.array_reshaping_end_laws.proofs.history_invariant_Lengths.{now-drawn}
+use Rattle.array_reshaping_end_laws.proofs.history_invariant_Longer.{regains-none}
+use Rattle.array_reshaping_end_laws.proofs.history_invariant_Reshapes.{call-ends_none}
+use Rattle.array_reshaping_end_laws.proofs.history_invariant_Tests.{or-left, or-right}
+use Rattle.array_reshaping_end_laws.proofs.history_invariant_Turned.{filled-before}
+use Rattle.array_reshaping_end_laws.proofs.history_invariant_Turns.{either-call}
 use Rattle.array_reshaping_end_laws.specs.history_invariant_laws_Reliable.{IsReliable, AreToldGone, IsNonePast}
 use Rattle.array_reshaping_end_laws.proofs.history_invariant_laws_Behind.{IsAmong, early-losses, inner-of, legal-losses}
 use Rattle.array_reshaping_end_laws.proofs.history_invariant_laws_Plans.{behind-all, ArePlannedTo, plans-done}
@@ -70,8 +70,8 @@ use Rattle.array_reshaping_end_laws.specs.array_reshaping_invariant_Moving.{HasL
 use Rattle.array_reshaping_end_laws.proofs.array_reshaping_invariant_Beginning.{safe-over}
 use Rattle.array_reshaping_end_laws.proofs.Consistent.{consistent-at}
 use Rattle.array_reshaping_end_laws.proofs.Ended.{disturbs-entries}
-use Rattle.array_fixed_invariant.proofs.array_call_specs_LedgerLaws.{none-ends, unsynced-more}
-use Rattle.array_fixed_invariant.proofs.history_laws_OneShapeGrowing.{call-ends}
+use Rattle.array_reshaping_end_laws.proofs.array_call_specs_LedgerLaws.{none-ends, unsynced-more}
+use Rattle.array_reshaping_end_laws.proofs.history_laws_OneShapeGrowing.{call-ends}
 use Rattle.array_takeover_laws.proofs.TakenMembers.{IsTaken, still-then, taken-then, taken-long, stands-then, rows-then}
 
 -- What the takeover of a level leaves: its members are the plan's, but for lost slots; its update is safe from one ledger to another; and what is missing then was missing, or is told lost, or is

@@ -78,12 +78,12 @@ use Rattle.array_reshaping_steps.proofs.array_fixed_invariant_Bridges.{stands-ke
 use Rattle.array_reshaping_steps.specs.array_specs_Parts.{still_left}
 use Rattle.array_reshaping_steps.proofs.array_specs_Called.{not_254}
 use Rattle.array_reshaping_steps.proofs.array_specs_VisibleLaws.{limit-kept}
-use Rattle.array_fixed_sync.specs.array_fixed_laws_Ready.{IsReady as IsReadyStill}
+use Rattle.array_reshaping_steps.specs.array_fixed_laws_Ready.{IsReady as IsReadyStill}
 use Rattle.array_reshaping_steps.specs.array_reshaping_laws_Ready.{IsReady as IsReadyMoving}
 use Rattle.array_reshaping_steps.proofs.array_reshaping_laws_Kept.{left_by}
 use Rattle.array_transition.specs.Begun.{begun_length, is_resize, HasKeptLength, IsBackupAt, CanBegin}
 use Rattle.array_transition.proofs.Planned.{none-recovering, begin-live, lost-missing}
-use Rattle.array_fixed_sync.proofs.array_fixed_laws_StepLaws.{losses-keep}
+use Rattle.array_reshaping_steps.proofs.array_fixed_laws_StepLaws.{losses-keep}
 
 -- ---- what is asked
 

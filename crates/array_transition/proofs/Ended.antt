@@ -43,11 +43,11 @@ use Rattle.array_reshaping_end_laws.proofs.Ended.{IsPlannedTo, IsStepped}
 use Rattle.array_reshaping_end_laws.proofs.Ending.{length_by, grown_to, ending_events}
 use Rattle.array_reshaping_steps.specs.array_specs_Parts.{left_in, still_left}
 use Rattle.array_reshaping_steps.specs.array_specs_Plans.{GoTo, turns_shape}
-use Rattle.array_fixed_sync.proofs.array_fixed_laws_Closing.{LeadTo, plans-of, ahead-none}
+use Rattle.array_reshaping_steps.proofs.array_fixed_laws_Closing.{LeadTo, plans-of, ahead-none}
 use Rattle.array_reshaping_steps.proofs.array_specs_Called.{not_254}
 use Rattle.array_reshaping_steps.proofs.array_specs_VisibleLaws.{limit-kept}
-use Rattle.array_fixed_sync.specs.array_fixed_laws_Ready.{IsReady as IsReadyStill}
-use Rattle.array_fixed_sync.proofs.array_fixed_laws_Plain.{IsLeftPlain, turned-plain, turns-behind}
+use Rattle.array_reshaping_steps.specs.array_fixed_laws_Ready.{IsReady as IsReadyStill}
+use Rattle.array_reshaping_steps.proofs.array_fixed_laws_Plain.{IsLeftPlain, turned-plain, turns-behind}
 use Rattle.array_reshaping_steps.specs.array_reshaping_laws_Ready.{IsReady as IsReadyMoving, bytes_in}
 use Rattle.array_reshaping_steps.proofs.array_reshaping_laws_Kept.{left_by, takes-before}
 use Rattle.array_transition.specs.Ended.{AreKeptOrFailed, WasSpareOrDropped}

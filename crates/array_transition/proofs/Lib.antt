@@ -19,12 +19,11 @@ pub use Rattle.array_reshaping_steps.proofs.array_fixed_invariant_Resting
 pub use Rattle.array_reshaping_steps.proofs.array_fixed_invariant_Stood
 pub use Rattle.array_reshaping_steps.proofs.array_fixed_invariant_Whole
 pub use Rattle.array_reshaping_steps.proofs.array_type_Lowest as array_fixed_sync_Lowest
-pub use Rattle.array_fixed_sync.proofs.NextLaws as array_fixed_sync_NextLaws
-pub use Rattle.array_fixed_sync.proofs.array_fixed_laws_Kept
-pub use Rattle.array_fixed_sync.proofs.array_fixed_laws_Plain
-pub use Rattle.array_fixed_sync.proofs.array_fixed_laws_PlainBehind
-pub use Rattle.array_fixed_sync.proofs.array_fixed_laws_PlansKept
-pub use Rattle.array_fixed_sync.proofs.array_fixed_laws_StepLaws
+pub use Rattle.array_reshaping_steps.proofs.array_fixed_laws_Kept
+pub use Rattle.array_reshaping_steps.proofs.array_fixed_laws_Plain
+pub use Rattle.array_reshaping_steps.proofs.array_fixed_laws_PlainBehind
+pub use Rattle.array_reshaping_steps.proofs.array_fixed_laws_PlansKept
+pub use Rattle.array_reshaping_steps.proofs.array_fixed_laws_StepLaws
 pub use Rattle.array_reshaping_steps.proofs.array_members_LiveLeft
 pub use Rattle.array_reshaping_steps.proofs.array_members_MemberLaws
 pub use Rattle.array_reshaping_steps.proofs.array_members_MovedLaws
@@ -59,6 +58,8 @@ pub use Rattle.array_reshaping_steps.proofs.reshape_plan_Sound
 pub use Rattle.array_reshaping_steps.proofs.raid_layout_Limits
 pub use Rattle.array_reshaping_steps.proofs.sb_specs_ValidFields
 pub use Rattle.array_reshaping_steps.proofs.array_reshaping_laws_WriteLaws
-pub use Rattle.array_fixed_sync.proofs.array_fixed_laws_RebuildLaws
+pub use Rattle.array_reshaping_steps.proofs.array_fixed_laws_RebuildLaws
 pub use Rattle.array_reshaping_steps.proofs.array_call_specs_RecordLaws
 pub use Rattle.array_reshaping_steps.proofs.array_call_specs_DegradedLaws
+pub use Rattle.array_reshaping_steps.proofs.array_type_Rest
+pub use Rattle.array_reshaping_steps.proofs.array_type_Alike

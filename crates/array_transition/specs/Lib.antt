@@ -22,11 +22,9 @@ pub use Rattle.array_reshaping_steps.specs.array_specs_Plans
 pub use Rattle.array_reshaping_steps.specs.array_specs_Still
 pub use Rattle.array_reshaping_steps.specs.array_fixed_invariant_Still
 pub use Rattle.array_reshaping_steps.specs.array_type_Rebuilding as array_fixed_sync_Rebuilding
-pub use Rattle.array_fixed_sync.specs.Resyncing as array_fixed_sync_Resyncing
-pub use Rattle.array_fixed_sync.specs.Stepping as array_fixed_sync_Stepping
-pub use Rattle.array_fixed_sync.specs.array_fixed_laws_Plain
-pub use Rattle.array_fixed_sync.specs.array_fixed_laws_Ready
-pub use Rattle.array_fixed_sync.specs.array_fixed_laws_Steps
+pub use Rattle.array_reshaping_steps.specs.array_fixed_laws_Plain
+pub use Rattle.array_reshaping_steps.specs.array_fixed_laws_Ready
+pub use Rattle.array_reshaping_steps.specs.array_fixed_laws_Steps
 pub use Rattle.array_reshaping_steps.specs.array_members_Status
 pub use Rattle.array_reshaping_steps.specs.array_members_Rebuilding
 pub use Rattle.array_reshaping_steps.specs.array_members_Placed
@@ -58,3 +56,4 @@ pub use Rattle.array_reshaping_steps.specs.sb_specs_Reading
 pub use Rattle.array_reshaping_steps.specs.sb_specs_Reads
 pub use Rattle.array_reshaping_steps.specs.sb_specs_Verdict
 pub use Rattle.array_reshaping_steps.specs.sb_specs_the_Members
+pub use Rattle.array_reshaping_steps.specs.array_type_One

@@ -24,7 +24,7 @@ ghost use Rattle.array_reshaping_steps.specs.history_invariant_Recorded.{IsCallG
 ghost use Rattle.array_reshaping_steps.specs.reshape_progress_Laws.{closed};
 ghost use Rattle.array_reshaping_steps.specs.array_specs_Parts.{RunningParts};
 ghost use Rattle.array_reshaping_steps.specs.array_specs_Plans.{turns_shape};
-ghost use Rattle.array_fixed_sync.specs.array_fixed_laws_Ready.{IsReady};
+ghost use Rattle.array_reshaping_steps.specs.array_fixed_laws_Ready.{IsReady};
 ghost use Rattle.array_transition.specs.Begun.{begun_length, HasKeptLength, IsBackupAt, IsPlain, IsReshapeBegun, IsGivenBack, IsBeginRefused};
 
 use crate::refusing::unbegun;

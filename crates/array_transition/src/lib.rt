@@ -5,7 +5,6 @@ mod beginning;
 mod ending;
 mod refusing;
 
-pub use array_fixed_sync::{first_recovering, still_step};
 pub use array_reshaping_steps::{
     Array, Course, Due, Event, Members, PhasesLeft, Room, all_left, append_absent, contains,
     due_step, found_numbers, holds_role, judge_grow, list_sectors, plan_of, room_for, step,

@@ -13,12 +13,12 @@ use Rattle.array_parts.specs.array_members_the_Work.{Work}
 use Rattle.array_parts.specs.array_members_Placed.{IsPlaced}
 use Rattle.array_parts.specs.array_members_Rebuilding.{AreSparesFree}
 use Rattle.array_parts.specs.reshape_request_the_PhasesLeft.{PhasesLeft}
-use Rattle.array_fixed_laws.specs.crash_views_Regions.{DoWithout}
-use Rattle.array_fixed_laws.specs.crash_safety_laws_Steady.{AreUnlost}
-use Rattle.array_fixed_laws.specs.history_invariant_Safe.{world_in}
-use Rattle.array_fixed_laws.specs.history_invariant_Recorded.{IsHistoryKept}
-use Rattle.array_fixed_laws.specs.history_invariant_laws_Reliable.{IsReliable, AreToldGone}
-use Rattle.array_fixed_laws.specs.Ready.{IsReady as IsReadyAtRest}
+use Rattle.array_reshaping_laws.specs.crash_views_Regions.{DoWithout}
+use Rattle.array_reshaping_laws.specs.crash_safety_laws_Steady.{AreUnlost}
+use Rattle.array_reshaping_laws.specs.history_invariant_Safe.{world_in}
+use Rattle.array_reshaping_laws.specs.history_invariant_Recorded.{IsHistoryKept}
+use Rattle.array_reshaping_laws.specs.history_invariant_laws_Reliable.{IsReliable, AreToldGone}
+use Rattle.array_reshaping_laws.specs.array_fixed_laws_Ready.{IsReady as IsReadyAtRest}
 use Rattle.array_reshaping_laws.specs.Ready.{IsReady as IsReadyInReshape}
 use Rattle.array_reshaping_laws.specs.reshape_progress_the_Course.{Course}
 use Rattle.array_type.specs.One.{KeepsBy}

@@ -23,20 +23,20 @@ use Rattle.array_parts.specs.array_members_Moving.{IsMoved}
 use Rattle.array_parts.specs.array_members_Placed.{IsPlaced}
 use Rattle.array_parts.specs.array_members_Rebuilding.{Held}
 use Rattle.array_parts.specs.array_members_Status.{stripes_of}
-use Rattle.array_fixed_laws.specs.crash_safety_laws_Steady.{AreUnlost}
+use Rattle.array_reshaping_laws.specs.crash_safety_laws_Steady.{AreUnlost}
 use Rattle.array_parts.proofs.array_members_Fit.{short, disks-within, force-disks}
 use Rattle.array_parts.proofs.array_members_MovedLaws.{grows-none, moved-same}
 use Rattle.array_parts.proofs.array_members_Still.{count-still}
 use Rattle.array_state.specs.history_append_Losing.{losses_of}
 use Rattle.array_parts.specs.reshape_request_the_PhasesLeft.{PhasesLeft}
 use Rattle.array_parts.specs.reshape_request_Left.{phases_of}
-use Rattle.array_fixed_laws.specs.array_call_specs_Calls.{IsBehind, IsBehindAll, IsLossBy, IsEndOf, AreLossesBy}
-use Rattle.array_fixed_laws.specs.array_fixed_invariant_Still.{AreAtRest}
-use Rattle.array_fixed_laws.specs.array_specs_Calls.{IsCalled}
-use Rattle.array_fixed_laws.specs.array_specs_Parts.{RunningParts}
-use Rattle.array_fixed_laws.specs.Steps.{IsStepped}
-use Rattle.array_fixed_laws.proofs.array_specs_Called.{called}
-use Rattle.array_fixed_laws.proofs.StepLaws.{stepped, shapes-same}
+use Rattle.array_reshaping_laws.specs.array_call_specs_Calls.{IsBehind, IsBehindAll, IsLossBy, IsEndOf, AreLossesBy}
+use Rattle.array_reshaping_laws.specs.array_fixed_invariant_Still.{AreAtRest}
+use Rattle.array_reshaping_laws.specs.array_specs_Calls.{IsCalled}
+use Rattle.array_reshaping_laws.specs.array_specs_Parts.{RunningParts}
+use Rattle.array_reshaping_laws.specs.array_fixed_laws_Steps.{IsStepped}
+use Rattle.array_reshaping_laws.proofs.array_specs_Called.{called}
+use Rattle.array_reshaping_laws.proofs.array_fixed_laws_StepLaws.{stepped, shapes-same}
 
 -- ---- roles
 

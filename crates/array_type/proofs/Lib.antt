@@ -5,66 +5,66 @@ pub mod Rested
 pub mod Lowest
 pub mod ReshapingCalls
 pub mod StepLaws
-pub use Rattle.array_fixed_laws.proofs.AddLaws as array_fixed_laws_AddLaws
-pub use Rattle.array_fixed_laws.proofs.Closing as array_fixed_laws_Closing
-pub use Rattle.array_fixed_laws.proofs.Going as array_fixed_laws_Going
-pub use Rattle.array_fixed_laws.proofs.Kept as array_fixed_laws_Kept
-pub use Rattle.array_fixed_laws.proofs.Left as array_fixed_laws_Left
-pub use Rattle.array_fixed_laws.proofs.Plain as array_fixed_laws_Plain
-pub use Rattle.array_fixed_laws.proofs.PlainBehind as array_fixed_laws_PlainBehind
-pub use Rattle.array_fixed_laws.proofs.PlansKept as array_fixed_laws_PlansKept
-pub use Rattle.array_fixed_laws.proofs.StepLaws as array_fixed_laws_StepLaws
-pub use Rattle.array_fixed_laws.proofs.array_specs_Called
-pub use Rattle.array_fixed_laws.proofs.array_specs_Lengths
-pub use Rattle.array_fixed_laws.proofs.array_fixed_invariant_Refusals
-pub use Rattle.array_fixed_laws.proofs.array_fixed_invariant_Resting
-pub use Rattle.array_fixed_laws.proofs.array_call_specs_KeptLaws
-pub use Rattle.array_fixed_laws.proofs.array_call_specs_NowLaws
-pub use Rattle.array_fixed_laws.proofs.array_call_specs_ReadyLaws
-pub use Rattle.array_fixed_laws.proofs.array_call_specs_StepsLeft
-pub use Rattle.array_fixed_laws.proofs.history_invariant_laws_Behind
-pub use Rattle.array_fixed_laws.proofs.history_invariant_laws_Plans
-pub use Rattle.array_fixed_laws.proofs.array_specs_VisibleLaws
+pub use Rattle.array_reshaping_laws.proofs.array_fixed_laws_AddLaws
+pub use Rattle.array_reshaping_laws.proofs.array_fixed_laws_Closing
+pub use Rattle.array_reshaping_laws.proofs.array_fixed_laws_Going
+pub use Rattle.array_reshaping_laws.proofs.array_fixed_laws_Kept
+pub use Rattle.array_reshaping_laws.proofs.array_fixed_laws_Left
+pub use Rattle.array_reshaping_laws.proofs.array_fixed_laws_Plain
+pub use Rattle.array_reshaping_laws.proofs.array_fixed_laws_PlainBehind
+pub use Rattle.array_reshaping_laws.proofs.array_fixed_laws_PlansKept
+pub use Rattle.array_reshaping_laws.proofs.array_fixed_laws_StepLaws
+pub use Rattle.array_reshaping_laws.proofs.array_specs_Called
+pub use Rattle.array_reshaping_laws.proofs.array_specs_Lengths
+pub use Rattle.array_reshaping_laws.proofs.array_fixed_invariant_Refusals
+pub use Rattle.array_reshaping_laws.proofs.array_fixed_invariant_Resting
+pub use Rattle.array_reshaping_laws.proofs.array_call_specs_KeptLaws
+pub use Rattle.array_reshaping_laws.proofs.array_call_specs_NowLaws
+pub use Rattle.array_reshaping_laws.proofs.array_call_specs_ReadyLaws
+pub use Rattle.array_reshaping_laws.proofs.array_call_specs_StepsLeft
+pub use Rattle.array_reshaping_laws.proofs.history_invariant_laws_Behind
+pub use Rattle.array_reshaping_laws.proofs.history_invariant_laws_Plans
+pub use Rattle.array_reshaping_laws.proofs.array_specs_VisibleLaws
 pub use Rattle.array_state.proofs.history_append_CallLaws
-pub use Rattle.array_fixed_laws.proofs.crash_safety_laws_PlannedRoles
-pub use Rattle.array_fixed_laws.proofs.crash_safety_laws_Kept
-pub use Rattle.array_fixed_laws.proofs.crash_views_Stands
-pub use Rattle.array_fixed_laws.proofs.sb_read_laws_SaidLists
-pub use Rattle.array_fixed_laws.proofs.sb_read_laws_SaidSlots
-pub use Rattle.array_fixed_laws.proofs.array_call_specs_LossLaws
-pub use Rattle.array_fixed_laws.proofs.array_call_specs_ReplyLaws
-pub use Rattle.array_fixed_laws.proofs.array_fixed_invariant_Flushing
-pub use Rattle.array_fixed_laws.proofs.ResyncLaws as array_fixed_laws_ResyncLaws
-pub use Rattle.array_fixed_laws.proofs.array_call_specs_DegradedLaws
-pub use Rattle.array_fixed_laws.proofs.PlainSteps as array_fixed_laws_PlainSteps
+pub use Rattle.array_reshaping_laws.proofs.crash_safety_laws_PlannedRoles
+pub use Rattle.array_reshaping_laws.proofs.crash_safety_laws_Kept
+pub use Rattle.array_reshaping_laws.proofs.crash_views_Stands
+pub use Rattle.array_reshaping_laws.proofs.sb_read_laws_SaidLists
+pub use Rattle.array_reshaping_laws.proofs.sb_read_laws_SaidSlots
+pub use Rattle.array_reshaping_laws.proofs.array_call_specs_LossLaws
+pub use Rattle.array_reshaping_laws.proofs.array_call_specs_ReplyLaws
+pub use Rattle.array_reshaping_laws.proofs.array_fixed_invariant_Flushing
+pub use Rattle.array_reshaping_laws.proofs.array_fixed_laws_ResyncLaws
+pub use Rattle.array_reshaping_laws.proofs.array_call_specs_DegradedLaws
+pub use Rattle.array_reshaping_laws.proofs.array_fixed_laws_PlainSteps
 pub use Rattle.array_state.proofs.UnmendableLaws as array_state_UnmendableLaws
-pub use Rattle.array_fixed_laws.proofs.array_call_laws_ResyncLaws
-pub use Rattle.array_fixed_laws.proofs.array_fixed_invariant_Resync
+pub use Rattle.array_reshaping_laws.proofs.array_call_laws_ResyncLaws
+pub use Rattle.array_reshaping_laws.proofs.array_fixed_invariant_Resync
 pub use Rattle.sb_election.proofs.raid_layout_Limits
-pub use Rattle.array_fixed_laws.proofs.array_call_laws_RebuildGiven
-pub use Rattle.array_fixed_laws.proofs.array_fixed_invariant_Rebuilding
-pub use Rattle.array_fixed_laws.proofs.RebuildLaws as array_fixed_laws_RebuildLaws
-pub use Rattle.array_fixed_laws.proofs.array_fixed_invariant_Staying
-pub use Rattle.array_fixed_laws.proofs.array_call_laws_RebuildLaws
-pub use Rattle.array_fixed_laws.proofs.array_call_laws_RebuildEnded
-pub use Rattle.array_fixed_laws.proofs.array_fixed_invariant_Ending
-pub use Rattle.array_fixed_laws.proofs.crash_safety_laws_Risen
-pub use Rattle.array_fixed_laws.proofs.array_fixed_invariant_Stood
+pub use Rattle.array_reshaping_laws.proofs.array_call_laws_RebuildGiven
+pub use Rattle.array_reshaping_laws.proofs.array_fixed_invariant_Rebuilding
+pub use Rattle.array_reshaping_laws.proofs.array_fixed_laws_RebuildLaws
+pub use Rattle.array_reshaping_laws.proofs.array_fixed_invariant_Staying
+pub use Rattle.array_reshaping_laws.proofs.array_call_laws_RebuildLaws
+pub use Rattle.array_reshaping_laws.proofs.array_call_laws_RebuildEnded
+pub use Rattle.array_reshaping_laws.proofs.array_fixed_invariant_Ending
+pub use Rattle.array_reshaping_laws.proofs.crash_safety_laws_Risen
+pub use Rattle.array_reshaping_laws.proofs.array_fixed_invariant_Stood
 pub use Rattle.array_state.proofs.FirstLaws as array_state_FirstLaws
-pub use Rattle.array_fixed_laws.proofs.Reading as array_fixed_laws_Reading
-pub use Rattle.array_fixed_laws.proofs.array_call_laws_ReadLaws
-pub use Rattle.array_fixed_laws.proofs.history_invariant_Records
-pub use Rattle.array_fixed_laws.proofs.array_fixed_invariant_Leaving
-pub use Rattle.array_fixed_laws.proofs.array_fixed_invariant_Reading
-pub use Rattle.array_fixed_laws.proofs.array_specs_Replies
-pub use Rattle.array_fixed_laws.proofs.Asking as array_fixed_laws_Asking
-pub use Rattle.array_fixed_laws.proofs.array_call_laws_AddLaws
-pub use Rattle.array_fixed_laws.proofs.PlainAdds as array_fixed_laws_PlainAdds
-pub use Rattle.array_fixed_laws.proofs.array_call_laws_AddedNumbers
-pub use Rattle.array_fixed_laws.proofs.array_call_laws_AddedKept
-pub use Rattle.array_fixed_laws.proofs.array_call_laws_AddedLosses
-pub use Rattle.array_fixed_laws.proofs.array_fixed_invariant_Writing
-pub use Rattle.array_fixed_laws.proofs.Writing as array_fixed_laws_Writing
+pub use Rattle.array_reshaping_laws.proofs.array_fixed_laws_Reading
+pub use Rattle.array_reshaping_laws.proofs.array_call_laws_ReadLaws
+pub use Rattle.array_reshaping_laws.proofs.history_invariant_Records
+pub use Rattle.array_reshaping_laws.proofs.array_fixed_invariant_Leaving
+pub use Rattle.array_reshaping_laws.proofs.array_fixed_invariant_Reading
+pub use Rattle.array_reshaping_laws.proofs.array_specs_Replies
+pub use Rattle.array_reshaping_laws.proofs.array_fixed_laws_Asking
+pub use Rattle.array_reshaping_laws.proofs.array_call_laws_AddLaws
+pub use Rattle.array_reshaping_laws.proofs.array_fixed_laws_PlainAdds
+pub use Rattle.array_reshaping_laws.proofs.array_call_laws_AddedNumbers
+pub use Rattle.array_reshaping_laws.proofs.array_call_laws_AddedKept
+pub use Rattle.array_reshaping_laws.proofs.array_call_laws_AddedLosses
+pub use Rattle.array_reshaping_laws.proofs.array_fixed_invariant_Writing
+pub use Rattle.array_reshaping_laws.proofs.array_fixed_laws_Writing
 pub use Rattle.array_state.proofs.history_append_PlainLaws
 pub use Rattle.array_state.proofs.raid_types_SectorLaws
 pub use Rattle.sb_election.proofs.sb_specs_Searches
@@ -82,8 +82,8 @@ pub use Rattle.array_parts.proofs.array_members_MovedLaws
 pub use Rattle.array_parts.proofs.array_members_SafeStretch
 pub use Rattle.array_parts.proofs.array_members_Still
 pub use Rattle.array_state.proofs.raid_types_Least
-pub use Rattle.array_fixed_laws.proofs.history_append_BearerLaws
-pub use Rattle.array_fixed_laws.proofs.history_laws_OneShapeGrowing
+pub use Rattle.array_reshaping_laws.proofs.history_append_BearerLaws
+pub use Rattle.array_reshaping_laws.proofs.history_laws_OneShapeGrowing
 pub use Rattle.array_reshaping_laws.proofs.Kept as array_reshaping_laws_Kept
 pub use Rattle.array_reshaping_laws.proofs.Copied as array_reshaping_laws_Copied
 pub use Rattle.array_reshaping_laws.proofs.ResyncLaws as array_reshaping_laws_ResyncLaws
@@ -138,3 +138,31 @@ pub use Rattle.array_reshaping_laws.proofs.array_reshaping_invariant_AddedSpare
 pub use Rattle.array_reshaping_laws.proofs.AddLaws as array_reshaping_laws_AddLaws
 pub use Rattle.array_reshaping_laws.proofs.array_call_specs_LedgerLaws
 pub use Rattle.array_reshaping_laws.proofs.array_call_specs_RecordLaws
+pub use Rattle.array_reshaping_laws.proofs.array_fixed_invariant_Bridges
+pub use Rattle.array_reshaping_laws.proofs.array_fixed_invariant_Quiet
+pub use Rattle.array_reshaping_laws.proofs.array_fixed_invariant_Whole
+pub use Rattle.array_reshaping_laws.proofs.reshape_begin_end_Made
+pub use Rattle.array_reshaping_laws.proofs.reshape_sb_updates_BegunNewest
+pub use Rattle.array_reshaping_laws.proofs.reshape_sb_updates_BegunPlan
+pub use Rattle.array_reshaping_laws.proofs.reshape_sb_updates_EndedPlan
+pub use Rattle.array_reshaping_laws.proofs.reshape_sb_updates_NewRoles
+pub use Rattle.array_reshaping_laws.proofs.reshape_sb_updates_Taken
+pub use Rattle.array_reshaping_laws.proofs.history_append_LosingLaws
+pub use Rattle.array_reshaping_laws.proofs.raid_types_Tabulated
+pub use Rattle.array_reshaping_laws.proofs.stripe_row_Tables
+pub use Rattle.array_reshaping_laws.proofs.sb_specs_SlotSets
+pub use Rattle.array_reshaping_laws.proofs.array_reshaping_invariant_Flushing
+pub use Rattle.array_reshaping_laws.proofs.array_reshaping_resync_laws_Resync
+pub use Rattle.array_reshaping_laws.proofs.history_append_LeftLaws
+pub use Rattle.array_reshaping_laws.proofs.history_invariant_laws_Quiet
+pub use Rattle.array_reshaping_laws.proofs.Asking as array_reshaping_laws_Asking
+pub use Rattle.array_reshaping_laws.proofs.array_fixed_laws_Adopting
+pub use Rattle.array_reshaping_laws.proofs.array_fixed_laws_Limiting
+pub use Rattle.array_reshaping_laws.proofs.array_fixed_laws_AnswerLaws
+pub use Rattle.array_reshaping_laws.proofs.array_call_laws_FailedLaws
+pub use Rattle.array_reshaping_laws.proofs.array_fixed_invariant_Failing
+pub use Rattle.array_reshaping_laws.proofs.array_specs_TakenOut
+pub use Rattle.array_reshaping_laws.proofs.array_reshaping_invariant_Failing
+pub use Rattle.array_reshaping_laws.proofs.TakenOut as array_reshaping_laws_TakenOut
+pub use Rattle.array_reshaping_laws.proofs.array_fixed_laws_Settled
+pub use Rattle.array_reshaping_laws.proofs.array_call_laws_SettledLaws

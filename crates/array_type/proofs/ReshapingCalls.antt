@@ -31,15 +31,15 @@ use Rattle.array_parts.specs.array_members_Moving.{IsMoved}
 use Rattle.array_parts.specs.array_members_Lacking.{AreTooMany}
 use Rattle.array_parts.specs.array_members_Rebuilding.{Held}
 use Rattle.array_parts.proofs.array_members_MovedLaws.{grows-none, moved-same}
-use Rattle.array_fixed_laws.specs.crash_safety_laws_Steady.{AreUnlost}
-use Rattle.array_fixed_laws.specs.array_call_specs_Calls.{by_answer, IsLossBy, WasSpare, IsEndOf, IsRefusedFor, IsBehind}
-use Rattle.array_fixed_laws.proofs.array_call_specs_ReplyLaws.{too-many-of, refused-for}
-use Rattle.array_fixed_laws.specs.array_specs_Parts.{RunningParts}
-use Rattle.array_fixed_laws.specs.array_specs_Calls.{IsCalled, IsCopyDue, IsRecordDue, IsZeroDue}
+use Rattle.array_reshaping_laws.specs.crash_safety_laws_Steady.{AreUnlost}
+use Rattle.array_reshaping_laws.specs.array_call_specs_Calls.{by_answer, IsLossBy, WasSpare, IsEndOf, IsRefusedFor, IsBehind}
+use Rattle.array_reshaping_laws.proofs.array_call_specs_ReplyLaws.{too-many-of, refused-for}
+use Rattle.array_reshaping_laws.specs.array_specs_Parts.{RunningParts}
+use Rattle.array_reshaping_laws.specs.array_specs_Calls.{IsCalled, IsCopyDue, IsRecordDue, IsZeroDue}
 use Rattle.array_reshaping_laws.specs.array_reshaping_state_Due.{IsDue}
 use Rattle.array_reshaping_laws.specs.array_reshaping_state_the_Due_TheVariants.{Copy, Record, Zero}
 use Rattle.array_reshaping_laws.specs.Mending.{IsResyncCalled}
-use Rattle.array_fixed_laws.proofs.array_specs_Called.{called}
+use Rattle.array_reshaping_laws.proofs.array_specs_Called.{called}
 use Rattle.array_reshaping_laws.proofs.Kept.{AreSameShapes}
 
 -- nothing was done

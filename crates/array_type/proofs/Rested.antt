@@ -13,7 +13,7 @@ use Rattle.array_parts.specs.array_members_Placed.{IsPlaced}
 use Rattle.array_parts.specs.array_members_Status.{stripes_of}
 use Rattle.array_parts.proofs.array_members_Fit.{short, disks-within, force-disks, count-alike}
 use Rattle.array_parts.specs.reshape_request_the_PhasesLeft.{PhasesLeft}
-use Rattle.array_fixed_laws.specs.array_specs_Parts.{still_left}
+use Rattle.array_reshaping_laws.specs.array_specs_Parts.{still_left}
 
 pub le-of : {a b : ℕ} → a ≡ b → a ≤ b
 le-of same = omega (arith, same)

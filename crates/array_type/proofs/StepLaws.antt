@@ -21,8 +21,8 @@ use Rattle.array_state.specs.history_append_Losing.{losses_of}
 use Rattle.array_parts.specs.reshape_request_the_Window.{Window}
 use Rattle.array_parts.specs.reshape_request_the_Window_TheVariants.{Entered}
 use Rattle.array_parts.specs.reshape_request_Left.{zeroed_by, IsReshapeUnderWay, IsWindowRight}
-use Rattle.array_fixed_laws.specs.array_call_specs_Calls.{IsBehind}
-use Rattle.array_fixed_laws.specs.array_specs_Parts.{RunningParts}
+use Rattle.array_reshaping_laws.specs.array_call_specs_Calls.{IsBehind}
+use Rattle.array_reshaping_laws.specs.array_specs_Parts.{RunningParts}
 use Rattle.array_reshaping_laws.specs.crash_views_Windows.{moved_past}
 use Rattle.array_reshaping_laws.proofs.array_reshaping_state_ReshapeLaws.{under-way-of}
 

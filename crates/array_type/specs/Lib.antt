@@ -1,32 +1,32 @@
 pub mod One
 pub mod Rebuilding
-pub use Rattle.array_fixed_laws.specs.Plain as array_fixed_laws_Plain
-pub use Rattle.array_fixed_laws.specs.Ready as array_fixed_laws_Ready
-pub use Rattle.array_fixed_laws.specs.Steps as array_fixed_laws_Steps
-pub use Rattle.array_fixed_laws.specs.array_specs_Calls
-pub use Rattle.array_fixed_laws.specs.array_specs_Parts
-pub use Rattle.array_fixed_laws.specs.array_specs_Plans
-pub use Rattle.array_fixed_laws.specs.array_fixed_invariant_Still
-pub use Rattle.array_fixed_laws.specs.array_call_specs_Calls
-pub use Rattle.array_fixed_laws.specs.array_call_specs_Kept
-pub use Rattle.array_fixed_laws.specs.history_invariant_laws_Reliable
-pub use Rattle.array_fixed_laws.specs.reshape_progress_Laws as array_fixed_invariant_reshape_progress_Laws
+pub use Rattle.array_reshaping_laws.specs.array_fixed_laws_Plain
+pub use Rattle.array_reshaping_laws.specs.array_fixed_laws_Ready
+pub use Rattle.array_reshaping_laws.specs.array_fixed_laws_Steps
+pub use Rattle.array_reshaping_laws.specs.array_specs_Calls
+pub use Rattle.array_reshaping_laws.specs.array_specs_Parts
+pub use Rattle.array_reshaping_laws.specs.array_specs_Plans
+pub use Rattle.array_reshaping_laws.specs.array_fixed_invariant_Still
+pub use Rattle.array_reshaping_laws.specs.array_call_specs_Calls
+pub use Rattle.array_reshaping_laws.specs.array_call_specs_Kept
+pub use Rattle.array_reshaping_laws.specs.history_invariant_laws_Reliable
+pub use Rattle.array_reshaping_laws.specs.reshape_progress_Laws as array_fixed_invariant_reshape_progress_Laws
 pub use Rattle.array_state.specs.history_append_Losing
 pub use Rattle.array_parts.specs.array_members_Lacking
 pub use Rattle.array_parts.specs.array_members_Placed
 pub use Rattle.array_parts.specs.array_members_Rebuilding
 pub use Rattle.array_parts.specs.array_members_Status
 pub use Rattle.array_parts.specs.array_members_the_Work
-pub use Rattle.array_fixed_laws.specs.history_invariant_Recorded
-pub use Rattle.array_fixed_laws.specs.crash_views_Regions
-pub use Rattle.array_fixed_laws.specs.crash_reshape_laws_Ends
-pub use Rattle.array_fixed_laws.specs.crash_reshape_laws_Takeovers
-pub use Rattle.array_fixed_laws.specs.history_invariant_Safe
-pub use Rattle.array_fixed_laws.specs.crash_safety_laws_Marking
-pub use Rattle.array_fixed_laws.specs.crash_safety_laws_Safety
-pub use Rattle.array_fixed_laws.specs.crash_safety_laws_Steady
-pub use Rattle.array_fixed_laws.specs.crash_safety_laws_Changing
-pub use Rattle.array_fixed_laws.specs.crash_views_Views
+pub use Rattle.array_reshaping_laws.specs.history_invariant_Recorded
+pub use Rattle.array_reshaping_laws.specs.crash_views_Regions
+pub use Rattle.array_reshaping_laws.specs.crash_reshape_laws_Ends
+pub use Rattle.array_reshaping_laws.specs.crash_reshape_laws_Takeovers
+pub use Rattle.array_reshaping_laws.specs.history_invariant_Safe
+pub use Rattle.array_reshaping_laws.specs.crash_safety_laws_Marking
+pub use Rattle.array_reshaping_laws.specs.crash_safety_laws_Safety
+pub use Rattle.array_reshaping_laws.specs.crash_safety_laws_Steady
+pub use Rattle.array_reshaping_laws.specs.crash_safety_laws_Changing
+pub use Rattle.array_reshaping_laws.specs.crash_views_Views
 pub use Rattle.array_parts.specs.history_World
 pub use Rattle.array_parts.specs.history_Flat
 pub use Rattle.array_parts.specs.history_Sound
@@ -39,9 +39,9 @@ pub use Rattle.array_parts.specs.history_the_LostCause
 pub use Rattle.array_parts.specs.history_the_LostCause_TheVariants
 pub use Rattle.array_parts.specs.history_Plain
 pub use Rattle.array_parts.specs.stripe_row_Rows
-pub use Rattle.array_fixed_laws.specs.sb_safe_updates_First
-pub use Rattle.array_fixed_laws.specs.stripe_list_Writing
-pub use Rattle.array_fixed_laws.specs.sb_safe_updates_Named
+pub use Rattle.array_reshaping_laws.specs.sb_safe_updates_First
+pub use Rattle.array_reshaping_laws.specs.stripe_list_Writing
+pub use Rattle.array_reshaping_laws.specs.sb_safe_updates_Named
 pub use Rattle.array_state.specs.raid_types_Sectors
 pub use Rattle.array_state.specs.raid_types_Shapes
 pub use Rattle.array_state.specs.raid_types_the_Fault
@@ -120,3 +120,16 @@ pub use Rattle.array_parts.specs.reshape_request_Fitting
 pub use Rattle.array_state.specs.raid_types_the_Span
 pub use Rattle.array_reshaping_laws.specs.reshape_window_io_Fetching
 pub use Rattle.array_parts.specs.array_members_Under
+pub use Rattle.array_reshaping_laws.specs.reshape_begin_end_Begun
+pub use Rattle.array_reshaping_laws.specs.reshape_begin_end_Finished
+pub use Rattle.array_reshaping_laws.specs.reshape_sb_updates_Beginning
+pub use Rattle.array_reshaping_laws.specs.reshape_sb_updates_Ending
+pub use Rattle.array_reshaping_laws.specs.history_Losses
+pub use Rattle.array_state.specs.raid_types_Search
+pub use Rattle.array_state.specs.raid_types_the_Phase
+pub use Rattle.array_reshaping_laws.specs.raid_types_the_Phase_TheVariants
+pub use Rattle.array_reshaping_laws.specs.array_specs_Visible
+pub use Rattle.array_reshaping_laws.specs.array_call_specs_Adopting
+pub use Rattle.sb_election.specs.sb_codec_Superblock
+pub use Rattle.sb_election.specs.sb_specs_Election
+pub use Rattle.array_state.specs.raid_types_the_Status

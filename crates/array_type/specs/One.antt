@@ -2,9 +2,9 @@
 use Rattle.std.specs.Prelude.{◌≡◌, ℕ, Bool, true, false, if◌then◌else◌, MatchBool}
 use Rattle.array_state.specs.raid_types_the_Status.{Status}
 use Rattle.sb_election.specs.sb_specs_Reading.{is_reshaping}
-use Rattle.array_fixed_laws.specs.array_specs_Parts.{RunningParts, left_in, still_left}
-use Rattle.array_fixed_laws.specs.array_specs_Calls.{IsStatusFor}
-use Rattle.array_fixed_laws.specs.array_specs_Still.{IsStillStatus}
+use Rattle.array_reshaping_laws.specs.array_specs_Parts.{RunningParts, left_in, still_left}
+use Rattle.array_reshaping_laws.specs.array_specs_Calls.{IsStatusFor}
+use Rattle.array_reshaping_laws.specs.array_specs_Still.{IsStillStatus}
 
 -- one record while a reshape is active, and another while none is
 pub record KeepsBy (active : Bool) (moving still : Type 0) : Type 0 where

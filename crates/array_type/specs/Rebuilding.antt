@@ -15,7 +15,7 @@ use Rattle.array_parts.specs.history_the_StepKind_TheVariants.{RebuildTaken, Reb
 use Rattle.array_parts.specs.array_members_the_Work.{Work}
 use Rattle.array_parts.specs.array_members_Placed.{is_unassigned}
 use Rattle.array_parts.specs.array_members_Status.{stripes_of, rebuilt_of}
-use Rattle.array_fixed_laws.specs.array_call_specs_Calls.{IsRecoveredOrLost, with_rebuilt}
+use Rattle.array_reshaping_laws.specs.array_call_specs_Calls.{IsRecoveredOrLost, with_rebuilt}
 use Rattle.array_parts.specs.array_members_Rebuilding.{Held}
 
 -- a slot recovers the role

@@ -3,7 +3,7 @@
 ghost use Rattle.std.specs.Prelude.{◌≡◌};
 ghost use Rattle.array_type.specs.Rebuilding.{first_spare};
 
-use array_fixed_laws::is_spare;
+use array_reshaping_laws::is_spare;
 use sb_election::Members;
 
 /// The lowest spare.

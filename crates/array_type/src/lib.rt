@@ -5,32 +5,123 @@
 mod choosing;
 mod state;
 
-pub use array_fixed_laws::{
-    Filled, fill, first_read_refusal, first_write_refusal, flush_and_mark, flush_and_record,
-    give_role, has_unnamed, is_spare, is_unassigned, newly_unassigned, read_listed, record_missing,
-    recovering_slot, resync_rows, shape_in, synced_rows, too_many, unassigned_roles, visible_of,
-    write_listed,
-};
-pub use array_parts::{
-    Entries, Epoch, Event, PhasesLeft, Pieces, StepKind, Window, Work,
-    all_left as grow_asked_all_left, is_backward, is_missing, judge_grow, plan_of, planned_left,
-    reshape_left,
-};
-pub use array_reshaping_laws::{
-    Course, Due, clear_window, copy, due_step, enter_next, final_in, finish_window,
-    is_window_critical, list_sectors, next_window_of, record, stripe_to_copy, stripe_to_zero, zero,
-};
+pub use array_parts::Entries;
+pub use array_parts::Epoch;
+pub use array_parts::Event;
+pub use array_parts::LostCause;
+pub use array_parts::PhasesLeft;
+pub use array_parts::Pieces;
+pub use array_parts::StepKind;
+pub use array_parts::Window;
+pub use array_parts::Work;
+pub use array_parts::all_left as grow_asked_all_left;
+pub use array_parts::is_backward;
+pub use array_parts::is_missing;
+pub use array_parts::judge_grow;
+pub use array_parts::lose_slot;
+pub use array_parts::plan_of;
+pub use array_parts::planned_left;
+pub use array_parts::reshape_left;
+pub use array_reshaping_laws::Course;
+pub use array_reshaping_laws::Due;
+pub use array_reshaping_laws::Filled;
+pub use array_reshaping_laws::Finished;
+pub use array_reshaping_laws::backed_up_span;
+pub use array_reshaping_laws::begin;
+pub use array_reshaping_laws::clear_window;
+pub use array_reshaping_laws::copy;
+pub use array_reshaping_laws::due_step;
+pub use array_reshaping_laws::enter_next;
+pub use array_reshaping_laws::fill;
+pub use array_reshaping_laws::final_in;
+pub use array_reshaping_laws::finish;
+pub use array_reshaping_laws::finish_window;
+pub use array_reshaping_laws::first_read_refusal;
+pub use array_reshaping_laws::first_read_refusal_from;
+pub use array_reshaping_laws::first_resync_refusal as first_resync_refusal_from;
+pub use array_reshaping_laws::first_write_refusal;
+pub use array_reshaping_laws::first_write_refusal_from;
+pub use array_reshaping_laws::flush_and_mark;
+pub use array_reshaping_laws::flush_and_record;
+pub use array_reshaping_laws::give_role;
+pub use array_reshaping_laws::has_unnamed;
+pub use array_reshaping_laws::is_spare;
+pub use array_reshaping_laws::is_unassigned;
+pub use array_reshaping_laws::is_window_critical;
+pub use array_reshaping_laws::list_length;
+pub use array_reshaping_laws::list_sectors;
+pub use array_reshaping_laws::meets;
+pub use array_reshaping_laws::newly_unassigned;
+pub use array_reshaping_laws::next_window_of;
+pub use array_reshaping_laws::open_span;
+pub use array_reshaping_laws::read_around_window;
+pub use array_reshaping_laws::read_listed;
+pub use array_reshaping_laws::record;
+pub use array_reshaping_laws::record_missing;
+pub use array_reshaping_laws::recovering_slot;
+pub use array_reshaping_laws::relied_sector;
+pub use array_reshaping_laws::resync_list;
+pub use array_reshaping_laws::resync_rows;
+pub use array_reshaping_laws::shape_in;
+pub use array_reshaping_laws::stripe_to_copy;
+pub use array_reshaping_laws::stripe_to_zero;
+pub use array_reshaping_laws::synced_rows;
+pub use array_reshaping_laws::too_many;
+pub use array_reshaping_laws::unassigned_roles;
+pub use array_reshaping_laws::uncertain_span;
+pub use array_reshaping_laws::visible;
+pub use array_reshaping_laws::visible_of;
+pub use array_reshaping_laws::write_list;
+pub use array_reshaping_laws::write_listed;
+pub use array_reshaping_laws::zero;
+pub use array_state::BusyKind;
+pub use array_state::Fault;
+pub use array_state::NoMemory;
+pub use array_state::Refusal;
+pub use array_state::Role;
+pub use array_state::Sectors;
+pub use array_state::Shape;
+pub use array_state::Span;
+pub use array_state::Status;
+pub use array_state::Who;
 pub use array_state::absent::append_absent;
-pub use array_state::adding::{spare_for, unaddable};
-pub use array_state::asking::{steps_left, visible as sectors_at_rest};
+pub use array_state::add_member;
+pub use array_state::adding::spare_for;
+pub use array_state::adding::unaddable;
+pub use array_state::append_after_losses;
+pub use array_state::append_entry;
+pub use array_state::append_failure;
+pub use array_state::append_lost;
+pub use array_state::asking::copy_roles;
+pub use array_state::asking::copy_slots;
+pub use array_state::asking::steps_left;
+pub use array_state::asking::visible as sectors_at_rest;
+pub use array_state::bear;
+pub use array_state::check_number;
+pub use array_state::free_number;
 pub use array_state::holders::holds_role;
-pub use array_state::refusing::{are_synced, first_resync_refusal};
-pub use array_state::room::{Room, room_for, zeros};
-pub use array_state::work::{found_numbers, set_rebuilt};
-pub use array_state::{
-    Fault, Refusal, Role, Sectors, Shape, Who, add_member, append_after_losses, append_entry,
-    append_failure, append_lost, bear, check_number, free_number, look_at,
-};
+pub use array_state::look_at;
+pub use array_state::refusing::are_synced;
+pub use array_state::refusing::first_resync_refusal;
+pub use array_state::room::Room;
+pub use array_state::room::room_for;
+pub use array_state::room::zeros;
+pub use array_state::work::found_numbers;
+pub use array_state::work::found_work;
+pub use array_state::work::set_rebuilt;
 pub use choosing::first_spare;
-pub use sb_election::{Bank, Members, contains, with, without};
-pub use state::{Array, check_going, left_at_rest, left_in_reshape};
+pub use sb_election::Bank;
+pub use sb_election::BankFault;
+pub use sb_election::Members;
+pub use sb_election::Sb;
+pub use sb_election::contains;
+pub use sb_election::is_clean;
+pub use sb_election::is_reshaping;
+pub use sb_election::reads::read_superblock;
+pub use sb_election::target_of;
+pub use sb_election::with;
+pub use sb_election::without;
+pub use state::Array;
+pub use state::check_going;
+pub use state::left_at_rest;
+pub use state::left_in_reshape;

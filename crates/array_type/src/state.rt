@@ -40,10 +40,10 @@ pub struct Array<B: Bank> {
 impl<B: Bank> Model for Array<B> {
     ghost use Rattle.std.specs.Prelude.{◌≡◌, vec_capacity, length, IsSome};
     ghost use Rattle.sb_election.specs.sb_specs_Reading.{is_reshaping};
-    ghost use Rattle.array_fixed_laws.specs.array_call_specs_Kept.{scope_in};
-    ghost use Rattle.array_fixed_laws.specs.reshape_progress_Laws.{closed};
-    ghost use Rattle.array_fixed_laws.specs.array_specs_Parts.{RunningParts};
-    ghost use Rattle.array_fixed_laws.specs.Ready.{IsReady as IsReadyAtRest};
+    ghost use Rattle.array_reshaping_laws.specs.array_call_specs_Kept.{scope_in};
+    ghost use Rattle.array_reshaping_laws.specs.reshape_progress_Laws.{closed};
+    ghost use Rattle.array_reshaping_laws.specs.array_specs_Parts.{RunningParts};
+    ghost use Rattle.array_reshaping_laws.specs.array_fixed_laws_Ready.{IsReady as IsReadyAtRest};
     ghost use Rattle.array_reshaping_laws.specs.Ready.{IsReady as IsReadyInReshape};
     ghost use Rattle.array_type.specs.One.{KeepsBy};
 

@@ -8,9 +8,8 @@ ghost use Rattle.array.specs.Calls.{running_left, IsNext};
 ghost use Rattle.array.specs.declared.state.choosing.Next.TheVariants.{Nothing as IsDone};
 
 use crate::state::Running;
-use array_grow::{Bank, Due, Phase, Shape, due_step, steps_left};
+use array_grow::{Array, Bank, Due, Phase, Shape, due_step, steps_left};
 use array_takeover::PhasesLeft;
-use array_type::Array;
 
 /// What is next to do in a running array: nothing; a step of a resync or of a rebuild, without a reshape; the reshape to this shape
 /// begins, which is ahead; the level is taken over, to this shape; a step of the active reshape, or of a resync beside it; or the

@@ -16,13 +16,14 @@ ghost use Rattle.array_grow.specs.history_invariant_Recorded.{IsCallGoing};
 ghost use Rattle.array_grow.specs.array_specs_Parts.{still_left};
 ghost use Rattle.array_grow.specs.array_specs_Calls.{moving_world};
 ghost use Rattle.array_grow.specs.array_fixed_laws_Steps.{IsStepped, IsClosable, IsCallUnbroken};
-ghost use Rattle.array_grow.specs.array_fixed_sync_Resyncing.{is_at_end};
+ghost use Rattle.array_takeover.specs.array_fixed_sync_Resyncing.{is_at_end};
 ghost use Rattle.array_grow.specs.array_fixed_sync_Rebuilding.{first_recovering, rebuilt_role, IsGivenToSpare};
-ghost use Rattle.array_grow.specs.array_fixed_sync_Stepping.{IsUndone, IsEnd, IsStepEntered, next_kind, after_step, IsHeldOrDue};
+ghost use Rattle.array_takeover.specs.array_fixed_sync_Stepping.{IsUndone, IsEnd, IsStepEntered, next_kind, after_step, IsHeldOrDue};
 ghost use Rattle.array.specs.Calls.{IsRefusedInStep};
 
 use crate::state::{Running, check_array};
-use array_grow::{Bank, Fault, Who, first_recovering, still_step};
+use array_grow::{Bank, Fault, Who};
+use array_takeover::{first_recovering, still_step};
 
 impl<B: Bank> Running<B> {
     /// Whether a slot recovers a role, so that the next step of a rebuild isn't its first one. In a reshape none does.

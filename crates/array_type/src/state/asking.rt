@@ -5,14 +5,13 @@ ghost use Rattle.sb_election.specs.sb_specs_Reading.{is_reshaping, shape_of, lis
 ghost use Rattle.array_parts.specs.history_Flat.{next_number, length_of, limit_of};
 ghost use Rattle.array_parts.specs.history_Legal.{told_left};
 ghost use Rattle.array_parts.specs.array_members_Status.{stripes_of, rebuilt_of};
-ghost use Rattle.array_fixed_laws.specs.array_specs_Parts.{visible_in};
+ghost use Rattle.array_reshaping_laws.specs.array_specs_Parts.{visible_in};
 ghost use Rattle.array_type.specs.One.{running_left};
 
 use crate::state::Array;
 use crate::state::left::{left_at_rest, left_in_reshape};
-use array_fixed_laws::{shape_in, visible_of};
 use array_parts::Epoch;
-use array_reshaping_laws::{Course, list_sectors};
+use array_reshaping_laws::{Course, list_sectors, shape_in, visible_of};
 use array_state::stripes;
 use sb_election::{Bank, Members, is_reshaping};
 

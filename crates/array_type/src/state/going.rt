@@ -1,7 +1,7 @@
 //! A call that goes on.
 
 ghost use Rattle.std.specs.Prelude.{◌≤◌, length};
-ghost use Rattle.array_fixed_laws.specs.history_invariant_Recorded.{IsCallGoing};
+ghost use Rattle.array_reshaping_laws.specs.history_invariant_Recorded.{IsCallGoing};
 
 use array_parts::Entries;
 use array_state::Who;

@@ -7,11 +7,10 @@ ghost use Rattle.sb_election.specs.sb_specs_Reading.{shape_of, final_shape};
 ghost use Rattle.array_reshaping_laws.specs.crash_views_Regions.{AreShapesFit};
 ghost use Rattle.array_parts.specs.array_members_Status.{stripes_of};
 ghost use Rattle.array_parts.specs.reshape_request_Left.{phases_of, zeroed_by, IsReshapeUnderWay, IsWindowRight};
-ghost use Rattle.array_fixed_laws.specs.array_specs_Parts.{still_left, left_in};
+ghost use Rattle.array_reshaping_laws.specs.array_specs_Parts.{still_left, left_in};
 
-use array_fixed_laws::shape_in;
 use array_parts::{PhasesLeft, Work, planned_left, reshape_left};
-use array_reshaping_laws::{Course, final_in, resync_left};
+use array_reshaping_laws::{Course, final_in, resync_left, shape_in};
 use array_state::asking::steps_left;
 use sb_election::Members;
 

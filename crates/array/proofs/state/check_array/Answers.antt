@@ -5,8 +5,8 @@ use Rattle.array_grow.specs.array_call_specs_Kept.{scope_in}
 use Rattle.array_grow.specs.array_specs_Parts.{left_in, still_left}
 use Rattle.array_grow.proofs.array_reshaping_laws_ResyncLaws.{left-some}
 use Rattle.array_grow.proofs.Stored.{stored-by}
-use Rattle.array_type.proofs.Rest.{on-both}
-use Rattle.array_type.proofs.Alike.{alike}
+use Rattle.array_grow.proofs.array_type_Rest.{on-both}
+use Rattle.array_grow.proofs.array_type_Alike.{alike}
 use Rattle.array.proofs.Checked.{some-of, left-by, aside-moving, window-next}
 use Rattle.array.proofs.state.check_array.Goals as goal
 

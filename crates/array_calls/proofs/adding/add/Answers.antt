@@ -37,7 +37,7 @@ use Rattle.array_type.specs.stripe_row_Rows.{present}
 use Rattle.array_type.specs.array_members_Lacking.{HaveRolesFailed}
 use Rattle.array_type.proofs.Rest.{on-both}
 use Rattle.array_type.proofs.Alike.{alike, goes-on, stays-at-rest}
-use Rattle.sb_election.specs.sb_specs_Reading.{is_reshaping}
+use Rattle.array_type.specs.sb_specs_Reading.{is_reshaping}
 use Rattle.array_calls.proofs.adding.add.Goals as goal
 
 -- a refusal before the slot is touched

@@ -54,7 +54,7 @@ use Rattle.array_type.proofs.StepLaws.{roles-moved}
 use Rattle.array_calls.proofs.Backed.{apart-of}
 use Rattle.array_type.proofs.Rest.{on-both}
 use Rattle.array_type.proofs.Alike.{alike, goes-on, stays-at-rest}
-use Rattle.sb_election.specs.sb_specs_Reading.{is_reshaping}
+use Rattle.array_type.specs.sb_specs_Reading.{is_reshaping}
 use Rattle.array_type.proofs.array_fixed_laws_AddLaws as law
 use Rattle.array_calls.proofs.adding.make_spare.Goals as goal
 

@@ -1,16 +1,16 @@
 use Rattle.std.proofs.Common.{◌≡◌, ◌∙◌, ◌++◌, ℕ, ◌<◌, false, List, refl, sym, ap, subst, arith, ◌≤◌}
-use Rattle.array_state.specs.raid_types_the_Shape.{Shape}
-use Rattle.array_state.specs.raid_types_Shapes.{has_slot}
-use Rattle.sb_election.specs.sb_specs_Reading.{Scope, shape_of}
-use Rattle.array_parts.specs.stripe_row_Rows.{reading_of}
-use Rattle.array_parts.specs.history_the_Entry.{Entry}
-use Rattle.array_parts.specs.history_Plain.{entries_of}
-use Rattle.array_fixed_laws.specs.array_call_specs_Kept.{scope_in}
-use Rattle.array_fixed_laws.specs.array_call_specs_Adopting.{opener, absent_losses, found_losses, IsAdoptable}
-use Rattle.array_fixed_laws.proofs.array_call_specs_ReadyLaws.{scope-same}
-use Rattle.array_parts.proofs.array_members_Fit.{valid, roles-still}
-use Rattle.array_fixed_laws.proofs.Adopting.{begins-ready}
-use Rattle.sb_election.proofs.raid_layout_Limits.{limited}
+use Rattle.array_type.specs.raid_types_the_Shape.{Shape}
+use Rattle.array_type.specs.raid_types_Shapes.{has_slot}
+use Rattle.array_type.specs.sb_specs_Reading.{Scope, shape_of}
+use Rattle.array_type.specs.stripe_row_Rows.{reading_of}
+use Rattle.array_type.specs.history_the_Entry.{Entry}
+use Rattle.array_type.specs.history_Plain.{entries_of}
+use Rattle.array_type.specs.array_call_specs_Kept.{scope_in}
+use Rattle.array_type.specs.array_call_specs_Adopting.{opener, absent_losses, found_losses, IsAdoptable}
+use Rattle.array_type.proofs.array_call_specs_ReadyLaws.{scope-same}
+use Rattle.array_type.proofs.array_members_Fit.{valid, roles-still}
+use Rattle.array_type.proofs.array_fixed_laws_Adopting.{begins-ready}
+use Rattle.array_type.proofs.raid_layout_Limits.{limited}
 use Rattle.array_type.proofs.Asked.{known-at}
 use Rattle.array_type.proofs.Alike.{stays-at-rest}
 use Rattle.array_calls.proofs.adopting.adopt.Goals as goal

@@ -12,14 +12,14 @@ use Rattle.array_type.specs.array_specs_Plans.{ArePlansKept}
 use Rattle.array_type.specs.array_fixed_laws_Steps.{IsStepsReplyNow, MayAnswer}
 use Rattle.array_type.proofs.array_fixed_laws_Kept.{ready, rows-same}
 use Rattle.array_type.proofs.array_fixed_laws_StepLaws.{shapes-same, stepped}
-use Rattle.array_fixed_laws.proofs.AnswerLaws.{answer-stands, reply-keeps, reply-lossless}
+use Rattle.array_type.proofs.array_fixed_laws_AnswerLaws.{answer-stands, reply-keeps, reply-lossless}
 use Rattle.array_type.proofs.array_fixed_laws_PlainBehind.{answered-plain}
 use Rattle.array_type.proofs.array_reshaping_laws_Kept.{ready as r-ready, shapes-same as r-shapes-same}
 use Rattle.array_calls.specs.Replies.{IsReplyInReshape}
 use Rattle.array_calls.proofs.AnswerLaws.{answer-moves, reply-keeps as r-reply-keeps, reply-lossless as r-reply-lossless}
 use Rattle.array_type.proofs.Rest.{on-both}
 use Rattle.array_type.proofs.Alike.{alike, goes-on, stays-at-rest}
-use Rattle.sb_election.specs.sb_specs_Reading.{is_reshaping}
+use Rattle.array_type.specs.sb_specs_Reading.{is_reshaping}
 use Rattle.array_calls.proofs.answering.answer.Goals as goal
 
 pub invariant_of-array : goal.invariant_of-array

@@ -1,9 +1,9 @@
 use Rattle.array_type.proofs.array_fixed_laws_Asking.{epoch-kept}
 use Rattle.array_type.proofs.array_fixed_laws_Plain.{plain-epoch}
-use Rattle.array_reshaping_laws.proofs.Asking.{epoch-kept as r-epoch-kept}
+use Rattle.array_type.proofs.array_reshaping_laws_Asking.{epoch-kept as r-epoch-kept}
 use Rattle.array_type.proofs.Rest.{on-both}
 use Rattle.array_type.proofs.Alike.{alike}
-use Rattle.sb_election.specs.sb_specs_Reading.{is_reshaping}
+use Rattle.array_type.specs.sb_specs_Reading.{is_reshaping}
 use Rattle.std.proofs.Common.{ap, ◌∙◌}
 use Rattle.array_calls.proofs.ending.bank_and_epoch.Goals as goal
 

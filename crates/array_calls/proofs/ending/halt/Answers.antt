@@ -21,10 +21,10 @@ use Rattle.array_type.proofs.array_fixed_laws_PlainBehind.{halted-plain}
 use Rattle.array_type.specs.array_members_Numbers.{bears}
 use Rattle.array_type.specs.array_reshaping_invariant_Moving.{IsMoving}
 use Rattle.array_type.specs.array_reshaping_laws_Ready.{bytes_in}
-use Rattle.array_reshaping_laws.proofs.Asking.{halted-moves, epoch-kept as r-epoch-kept}
+use Rattle.array_type.proofs.array_reshaping_laws_Asking.{halted-moves, epoch-kept as r-epoch-kept}
 use Rattle.array_type.proofs.array_specs_Called.{alone-lossless}
 use Rattle.array_type.proofs.Rest.{on-both}
-use Rattle.sb_election.specs.sb_specs_Reading.{is_reshaping}
+use Rattle.array_type.specs.sb_specs_Reading.{is_reshaping}
 use Rattle.array_calls.proofs.ending.halt.Goals as goal
 
 pub returns-clause-right : goal.returns-clause-right

@@ -2,7 +2,7 @@ use Rattle.array_type.proofs.array_fixed_laws_AddLaws.{ready-same}
 use Rattle.array_type.proofs.array_reshaping_laws_Examined.{ready-still}
 use Rattle.array_type.proofs.Rest.{on-both}
 use Rattle.array_type.proofs.Alike.{goes-on, stays-at-rest}
-use Rattle.sb_election.specs.sb_specs_Reading.{is_reshaping}
+use Rattle.array_type.specs.sb_specs_Reading.{is_reshaping}
 use Rattle.array_calls.proofs.examining.examine.Goals as goal
 
 pub invariant_of-array : goal.invariant_of-array

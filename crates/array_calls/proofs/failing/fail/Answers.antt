@@ -16,13 +16,13 @@ use Rattle.array_type.specs.array_call_specs_Kept.{scope_in}
 use Rattle.array_type.proofs.array_call_specs_ReadyLaws.{scope-same}
 use Rattle.array_type.proofs.array_call_specs_ReplyLaws.{fail_reply, no_role_reply}
 use Rattle.array_type.proofs.array_call_specs_LossLaws.{losses-failed, ended-behind}
-use Rattle.array_fixed_laws.proofs.array_call_laws_FailedLaws.{placed-out, unlost-out, moved-out, out-vacant, clean-out, rise-out, named-out, out-only, out-spares}
+use Rattle.array_type.proofs.array_call_laws_FailedLaws.{placed-out, unlost-out, moved-out, out-vacant, clean-out, rise-out, named-out, out-only, out-spares}
 use Rattle.array_type.proofs.history_invariant_Records.{begins-going}
-use Rattle.array_fixed_laws.proofs.array_fixed_invariant_Failing.{IsTakenOut, failed-stands}
+use Rattle.array_type.proofs.array_fixed_invariant_Failing.{IsTakenOut, failed-stands}
 use Rattle.array_type.specs.array_specs_Parts.{still_left, left_in}
 use Rattle.array_type.proofs.array_specs_Called.{not_254, called, alone-lossless, risen-told}
 use Rattle.array_type.proofs.array_specs_Lengths.{alone-keeps, behind-keeps}
-use Rattle.array_fixed_laws.proofs.array_specs_TakenOut.{behind-loss, moved-all, since-out, missing-out}
+use Rattle.array_type.proofs.array_specs_TakenOut.{behind-loss, moved-all, since-out, missing-out}
 use Rattle.array_type.proofs.array_fixed_laws_Asking.{refused-alone}
 use Rattle.array_type.proofs.array_fixed_laws_Kept.{ready, rows-same, rows-moved, roomier}
 use Rattle.array_type.proofs.array_fixed_laws_PlainBehind.{here-plain}
@@ -36,18 +36,18 @@ use Rattle.array_type.specs.array_members_Numbers.{bears}
 use Rattle.array_type.proofs.history_append_PlainLaws.{one}
 use Rattle.array_type.specs.history_invariant_Safe.{world_in}
 use Rattle.array_type.specs.array_reshaping_invariant_Moving.{IsMoving}
-use Rattle.array_reshaping_laws.proofs.array_reshaping_invariant_Failing.{failed-moves}
+use Rattle.array_type.proofs.array_reshaping_invariant_Failing.{failed-moves}
 use Rattle.array_type.proofs.array_reshaping_invariant_Refusals.{quiet-refusal}
 use Rattle.array_type.proofs.array_reshaping_invariant_Resting.{resting-moves}
 use Rattle.array_type.specs.array_reshaping_laws_Ready.{bytes_in}
 use Rattle.array_type.proofs.array_reshaping_laws_Kept.{ready as r-ready, shapes-same, shapes-moved, left-moved, behind-keeps as r-behind-keeps, takes-lost, lost-here}
-use Rattle.array_reshaping_laws.proofs.TakenOut.{moved-all as r-moved-all, taken-out}
+use Rattle.array_type.proofs.array_reshaping_laws_TakenOut.{moved-all as r-moved-all, taken-out}
 use Rattle.array_type.specs.stripe_row_Rows.{present}
 use Rattle.array_type.proofs.array_reshaping_laws_WriteLaws.{roomed}
 use Rattle.array_type.proofs.ReshapingCalls.{one-of-51, never-falls}
 use Rattle.array_type.proofs.Rest.{on-both}
 use Rattle.array_type.proofs.Alike.{alike, goes-on, stays-at-rest}
-use Rattle.sb_election.specs.sb_specs_Reading.{is_reshaping}
+use Rattle.array_type.specs.sb_specs_Reading.{is_reshaping}
 use Rattle.array_calls.proofs.failing.fail.Goals as goal
 
 -- an event, and others of its call behind it

@@ -1,21 +1,21 @@
 use Rattle.std.proofs.Common.{◌≡◌, ◌∷◌, ◌++◌, [], ℕ, List, length, refl, sym, ◌∙◌, ap, ap₂, arith}
-use Rattle.sb_election.specs.sb_specs_Reading.{is_reshaping, list_length}
-use Rattle.array_parts.specs.history_Flat.{next_number}
-use Rattle.array_parts.specs.history_Plain.{entries_of}
-use Rattle.array_parts.specs.history_the_Entry.{Entry}
-use Rattle.array_parts.specs.history_the_Event_TheVariants.{Visible, Refused}
-use Rattle.array_parts.proofs.array_members_MovedLaws.{grows-none}
-use Rattle.array_fixed_laws.proofs.array_call_specs_LossLaws.{ended-behind}
-use Rattle.array_fixed_laws.proofs.array_call_specs_ReadyLaws.{scope-same}
-use Rattle.array_parts.specs.reshape_request_Left.{phases_of}
-use Rattle.array_fixed_laws.proofs.history_invariant_Records.{begins-going}
-use Rattle.array_fixed_laws.specs.array_reshaping_state_Left.{visible_by}
-use Rattle.array_fixed_laws.specs.array_specs_Parts.{visible_size}
-use Rattle.array_fixed_laws.specs.array_specs_Visible.{visible_refusal}
-use Rattle.array_fixed_laws.proofs.array_specs_Lengths.{alone-keeps}
-use Rattle.array_fixed_laws.proofs.Kept.{ready, rows-same, roomier}
-use Rattle.array_fixed_laws.proofs.Limiting.{unlimited-fits, unlimited-stands, unlimited-plain, visible-fits, visible-ready}
-use Rattle.array_parts.specs.history_Transfers.{last_end_from}
+use Rattle.array_type.specs.sb_specs_Reading.{is_reshaping, list_length}
+use Rattle.array_type.specs.history_Flat.{next_number}
+use Rattle.array_type.specs.history_Plain.{entries_of}
+use Rattle.array_type.specs.history_the_Entry.{Entry}
+use Rattle.array_type.specs.history_the_Event_TheVariants.{Visible, Refused}
+use Rattle.array_type.proofs.array_members_MovedLaws.{grows-none}
+use Rattle.array_type.proofs.array_call_specs_LossLaws.{ended-behind}
+use Rattle.array_type.proofs.array_call_specs_ReadyLaws.{scope-same}
+use Rattle.array_type.specs.reshape_request_Left.{phases_of}
+use Rattle.array_type.proofs.history_invariant_Records.{begins-going}
+use Rattle.array_type.specs.array_reshaping_state_Left.{visible_by}
+use Rattle.array_type.specs.array_specs_Parts.{visible_size}
+use Rattle.array_type.specs.array_specs_Visible.{visible_refusal}
+use Rattle.array_type.proofs.array_specs_Lengths.{alone-keeps}
+use Rattle.array_type.proofs.array_fixed_laws_Kept.{ready, rows-same, roomier}
+use Rattle.array_type.proofs.array_fixed_laws_Limiting.{unlimited-fits, unlimited-stands, unlimited-plain, visible-fits, visible-ready}
+use Rattle.array_type.specs.history_Transfers.{last_end_from}
 use Rattle.array_type.proofs.Asked.{entries-alike}
 use Rattle.array_type.proofs.Alike.{stays-at-rest}
 use Rattle.array_calls.proofs.limiting.set_visible.Goals as goal

@@ -13,7 +13,7 @@ use Rattle.array_type.proofs.array_reshaping_laws_Kept.{roomier as r-roomier}
 use Rattle.array_calls.proofs.AnswerLaws.{with-steps}
 use Rattle.array_type.proofs.Rest.{on-both}
 use Rattle.array_type.proofs.Alike.{goes-on, stays-at-rest}
-use Rattle.sb_election.specs.sb_specs_Reading.{is_reshaping}
+use Rattle.array_type.specs.sb_specs_Reading.{is_reshaping}
 use Rattle.array_calls.proofs.rooms.make_room.Goals as goal
 
 -- it is ready for as many steps as there is room for

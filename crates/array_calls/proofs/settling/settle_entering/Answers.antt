@@ -18,7 +18,7 @@ use Rattle.array_type.proofs.array_specs_Lengths.{alone-keeps, behind-keeps}
 use Rattle.array_type.proofs.array_fixed_laws_Asking.{many-alone}
 use Rattle.array_type.proofs.array_fixed_laws_Kept.{ready, rows-same, rows-moved, roomier}
 use Rattle.array_type.proofs.array_fixed_laws_Left.{left-alike}
-use Rattle.array_fixed_laws.proofs.Settled.{settled-stands, left-settled, settling-keeps}
+use Rattle.array_type.proofs.array_fixed_laws_Settled.{settled-stands, left-settled, settling-keeps}
 use Rattle.array_type.proofs.array_call_specs_DegradedLaws.{too-many-here}
 use Rattle.array_type.proofs.array_fixed_laws_PlainBehind.{plain-refused, plain-settled, here-plain}
 use Rattle.std.specs.Prelude.{is_some}
@@ -30,13 +30,13 @@ use Rattle.array_type.specs.array_members_Placed.{AreWhole}
 use Rattle.array_type.specs.crash_safety_laws_Marking.{AreOthersPresent}
 use Rattle.array_type.specs.array_call_specs_Calls.{IsRefusedFor}
 use Rattle.array_type.proofs.array_call_specs_ReplyLaws.{refused-for, too-many-of}
-use Rattle.array_fixed_laws.proofs.array_call_laws_SettledLaws.{all-mended}
+use Rattle.array_type.proofs.array_call_laws_SettledLaws.{all-mended}
 use Rattle.array_type.proofs.Rested.{count-moved, from-0, le-of, room-1, room-49}
 use Rattle.array_type.proofs.Asked.{entries-alike, undone-called}
 use Rattle.array_type.specs.history_invariant_Safe.{world_in}
 use Rattle.array_type.specs.array_members_Numbers.{bears}
 use Rattle.array_type.specs.array_reshaping_invariant_Moving.{IsMoving}
-use Rattle.array_reshaping_laws.proofs.array_reshaping_invariant_Flushing.{flushed-moves, unflushed-moves, AreFlushed}
+use Rattle.array_type.proofs.array_reshaping_invariant_Flushing.{flushed-moves, unflushed-moves, AreFlushed}
 use Rattle.array_type.proofs.array_reshaping_invariant_Refusals.{quiet-refusal, refused-right}
 use Rattle.array_type.proofs.array_reshaping_invariant_Resting.{resting-moves}
 use Rattle.array_type.proofs.array_reshaping_invariant_Steps.{missing-since}
@@ -45,7 +45,7 @@ use Rattle.array_type.proofs.array_reshaping_laws_Kept.{ready as r-ready, shapes
 use Rattle.array_type.proofs.array_reshaping_laws_Settled.{settling-long, settling-free, settles-so}
 use Rattle.array_type.proofs.Rest.{on-both}
 use Rattle.array_type.proofs.Alike.{alike, goes-on, stays-at-rest}
-use Rattle.sb_election.specs.sb_specs_Reading.{is_reshaping}
+use Rattle.array_type.specs.sb_specs_Reading.{is_reshaping}
 use Rattle.array_calls.proofs.settling.settle_entering.Goals as goal
 
 pub overflow_cast-count : goal.overflow_cast-count

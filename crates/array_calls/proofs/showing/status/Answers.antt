@@ -1,5 +1,5 @@
 use Rattle.std.proofs.Common.{◌≡◌, ◌∷◌, ◌++◌, [], List, length, refl, sym, ◌∙◌, ap, ap₂, subst, arith, ◌≤◌, ℕ, ◌<◌}
-use Rattle.array_state.specs.raid_types_the_Status.{Status}
+use Rattle.array_type.specs.raid_types_the_Status.{Status}
 use Rattle.array_type.proofs.sb_specs_ValidFields.{few-roles}
 use Rattle.array_type.specs.history_Flat.{next_number}
 use Rattle.array_type.specs.history_Plain.{entries_of}
@@ -25,11 +25,11 @@ use Rattle.array_type.specs.sb_specs_Reading.{is_backward, shape_of, final_shape
 use Rattle.array_type.specs.sb_specs_the_Members.{Members}
 use Rattle.array_type.proofs.Asked.{entries-alike}
 use Rattle.array_type.proofs.array_reshaping_laws_Kept.{ready as r-ready, roomier as r-roomier, shapes-same}
-use Rattle.array_reshaping_laws.proofs.Asking.{shown-moves}
+use Rattle.array_type.proofs.array_reshaping_laws_Asking.{shown-moves}
 use Rattle.array_calls.proofs.Shown.{shown-same, shown-alike, shown-at-rest, shown-in-reshape}
 use Rattle.array_type.proofs.Rest.{on-both}
 use Rattle.array_type.proofs.Alike.{alike, goes-on, stays-at-rest}
-use Rattle.sb_election.specs.sb_specs_Reading.{is_reshaping}
+use Rattle.array_type.specs.sb_specs_Reading.{is_reshaping}
 use Rattle.array_calls.proofs.showing.status.Goals as goal
 
 -- the epoch goes on, with the same members on the same bank

@@ -1,6 +1,6 @@
 use Rattle.std.proofs.Common.{◌∙◌, ap, arith}
-use Rattle.sb_election.specs.sb_specs_Reading.{is_reshaping, is_clean, shape_of, target_of}
-use Rattle.sb_election.proofs.sb_specs_ValidFields.{few-roles}
+use Rattle.array_type.specs.sb_specs_Reading.{is_reshaping, is_clean, shape_of, target_of}
+use Rattle.array_type.proofs.sb_specs_ValidFields.{few-roles}
 use Rattle.std.specs.Prelude.{if◌then◌else◌}
 use Rattle.array_type.proofs.Alike.{alike}
 use Rattle.array_calls.proofs.Shown.{shown-as}

@@ -1,9 +1,9 @@
 use Rattle.std.proofs.Common.{sym, ◌∙◌, ap, arith}
-use Rattle.array_type.proofs.raid_types_Least.{least_below-none}
-use Rattle.array_type.specs.sb_specs_Reading.{shape_of, role_state}
-use Rattle.array_type.specs.stripe_row_Rows.{reading_of}
-use Rattle.array_type.specs.Rebuilding.{recovers}
-use Rattle.array_type.proofs.Lowest.{lowest-reached}
+use Rattle.array_fixed_io.proofs.raid_types_Least.{least_below-none}
+use Rattle.array_fixed_io.specs.sb_specs_Reading.{shape_of, role_state}
+use Rattle.array_fixed_io.specs.stripe_row_Rows.{reading_of}
+use Rattle.array_fixed_io.specs.array_type_Rebuilding.{recovers}
+use Rattle.array_fixed_io.proofs.array_type_Lowest.{lowest-reached}
 use Rattle.array_fixed_sync.proofs.choosing.first_recovering.Goals as goal
 
 pub returns-in-Recovering : goal.returns-in-Recovering

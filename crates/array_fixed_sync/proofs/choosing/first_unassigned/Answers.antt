@@ -1,10 +1,10 @@
 use Rattle.std.proofs.Common.{not, is_some, sym, ◌∙◌, ap, arith}
-use Rattle.array_type.specs.raid_types_the_Role.{Role}
-use Rattle.array_type.proofs.raid_types_Least.{least_below-none}
-use Rattle.array_type.specs.sb_specs_Reading.{shape_of, holder}
-use Rattle.array_type.specs.stripe_row_Rows.{reading_of}
-use Rattle.array_type.specs.array_members_Placed.{is_unassigned}
-use Rattle.array_type.proofs.Lowest.{lowest-reached}
+use Rattle.array_fixed_io.specs.raid_types_the_Role.{Role}
+use Rattle.array_fixed_io.proofs.raid_types_Least.{least_below-none}
+use Rattle.array_fixed_io.specs.sb_specs_Reading.{shape_of, holder}
+use Rattle.array_fixed_io.specs.stripe_row_Rows.{reading_of}
+use Rattle.array_fixed_io.specs.array_members_Placed.{is_unassigned}
+use Rattle.array_fixed_io.proofs.array_type_Lowest.{lowest-reached}
 use Rattle.array_fixed_sync.proofs.choosing.first_unassigned.Goals as goal
 
 pub returns-in-Missing : goal.returns-in-Missing

@@ -1,51 +1,51 @@
 use Rattle.std.proofs.Common.{◌≡◌, ℕ, ◌≤◌, ◌<◌, [], ◌∷◌, ◌++◌, List, None, length, inl, inr, refl, sym, ◌∙◌, ap, subst, arith, Option}
 use Rattle.std.proofs.lemmas.List.Elements.{All-nil, All-cons}
-use Rattle.array_type.specs.raid_types_the_Shape.{Shape}
-use Rattle.array_type.specs.raid_types_the_Role_TheVariants.{Whole, Recovering}
-use Rattle.array_type.proofs.raid_layout_Limits.{limited}
-use Rattle.array_type.specs.sb_specs_Reading.{shape_of, list_length, role_state, is_clean, is_reshaping}
-use Rattle.array_type.specs.stripe_row_Rows.{reading_of}
-use Rattle.array_type.specs.history_the_Entry.{Entry}
-use Rattle.array_type.specs.history_the_Event_TheVariants.{Lost, Step, Rebuilt}
-use Rattle.array_type.specs.history_the_LostCause_TheVariants.{Fault}
-use Rattle.array_type.specs.history_the_StepKind_TheVariants.{RebuildEnded}
-use Rattle.array_type.specs.history_Plain.{entries_of}
-use Rattle.array_type.specs.history_Transfers.{last_end_from}
-use Rattle.array_type.specs.array_members_Lacking.{AreLostSince, AreTooMany, synced_rows}
-use Rattle.array_type.specs.array_members_Rebuilding.{Held, with_whole}
-use Rattle.array_type.specs.array_members_Status.{left_of, stripes_of}
-use Rattle.array_type.proofs.array_members_Fit.{valid, short}
-use Rattle.array_type.proofs.array_members_GivenMembers.{placed-given, spare-before}
-use Rattle.array_type.proofs.array_members_LackingLaws.{lost-since, never-both}
-use Rattle.array_type.proofs.array_members_Still.{count-still}
-use Rattle.array_type.specs.history_append_Losing.{losses_of}
-use Rattle.array_type.proofs.history_append_CallLaws.{losses-are}
-use Rattle.array_type.proofs.history_append_PlainLaws.{one}
-use Rattle.array_type.specs.array_call_specs_Kept.{scope_in}
-use Rattle.array_type.specs.array_call_specs_Calls.{IsLossBy, WasSpare, AreStripesRebuilt}
-use Rattle.array_type.proofs.array_call_specs_LossLaws.{losses-tail, ended-behind}
-use Rattle.array_type.proofs.array_call_specs_ReadyLaws.{scope-same}
-use Rattle.array_type.proofs.array_call_specs_ReplyLaws.{too-many-of, refused-for}
-use Rattle.array_type.proofs.array_call_specs_StepsLeft.{steps-fewer}
-use Rattle.array_type.proofs.array_call_laws_RebuildEnded.{whole-vacant, whole-after, failed-still, holder-before}
-use Rattle.array_type.proofs.array_call_laws_RebuildGiven.{receiver-recovering}
-use Rattle.array_type.proofs.array_call_laws_RebuildLaws.{losses-open, losses-end}
-use Rattle.array_type.specs.history_invariant_Safe.{world_in}
-use Rattle.array_type.proofs.array_fixed_invariant_Ending.{IsMadeWhole}
-use Rattle.array_type.specs.array_specs_Calls.{moving_world}
-use Rattle.array_type.specs.array_specs_Plans.{ArePlansKept}
-use Rattle.array_type.specs.array_fixed_laws_Steps.{IsCallUnbroken}
-use Rattle.array_type.proofs.array_specs_Called.{risen-told}
-use Rattle.array_type.proofs.array_specs_Lengths.{behind-keeps}
-use Rattle.array_type.proofs.array_fixed_laws_Kept.{ready, rows-moved}
-use Rattle.array_type.proofs.array_fixed_laws_Going.{still-going}
-use Rattle.array_type.proofs.array_fixed_laws_StepLaws.{shapes-moved, planned-same, stepped, fewer-more, losses-keep}
-use Rattle.array_type.proofs.array_fixed_laws_RebuildLaws.{alone, both, among-vacant, whole-held, whole-less, whole-done, end-lost}
-use Rattle.array_type.proofs.array_fixed_laws_PlainSteps.{gone-plain, whole-plain}
+use Rattle.array_fixed_io.specs.raid_types_the_Shape.{Shape}
+use Rattle.array_fixed_io.specs.raid_types_the_Role_TheVariants.{Whole, Recovering}
+use Rattle.array_fixed_io.proofs.raid_layout_Limits.{limited}
+use Rattle.array_fixed_io.specs.sb_specs_Reading.{shape_of, list_length, role_state, is_clean, is_reshaping}
+use Rattle.array_fixed_io.specs.stripe_row_Rows.{reading_of}
+use Rattle.array_fixed_io.specs.history_the_Entry.{Entry}
+use Rattle.array_fixed_io.specs.history_the_Event_TheVariants.{Lost, Step, Rebuilt}
+use Rattle.array_fixed_io.specs.history_the_LostCause_TheVariants.{Fault}
+use Rattle.array_fixed_io.specs.history_the_StepKind_TheVariants.{RebuildEnded}
+use Rattle.array_fixed_io.specs.history_Plain.{entries_of}
+use Rattle.array_fixed_io.specs.history_Transfers.{last_end_from}
+use Rattle.array_fixed_io.specs.array_members_Lacking.{AreLostSince, AreTooMany, synced_rows}
+use Rattle.array_fixed_io.specs.array_members_Rebuilding.{Held, with_whole}
+use Rattle.array_fixed_io.specs.array_members_Status.{left_of, stripes_of}
+use Rattle.array_fixed_io.proofs.array_members_Fit.{valid, short}
+use Rattle.array_fixed_io.proofs.array_members_GivenMembers.{placed-given, spare-before}
+use Rattle.array_fixed_io.proofs.array_members_LackingLaws.{lost-since, never-both}
+use Rattle.array_fixed_io.proofs.array_members_Still.{count-still}
+use Rattle.array_fixed_io.specs.history_append_Losing.{losses_of}
+use Rattle.array_fixed_io.proofs.history_append_CallLaws.{losses-are}
+use Rattle.array_fixed_io.proofs.history_append_PlainLaws.{one}
+use Rattle.array_fixed_io.specs.array_call_specs_Kept.{scope_in}
+use Rattle.array_fixed_io.specs.array_call_specs_Calls.{IsLossBy, WasSpare, AreStripesRebuilt}
+use Rattle.array_fixed_io.proofs.array_call_specs_LossLaws.{losses-tail, ended-behind}
+use Rattle.array_fixed_io.proofs.array_call_specs_ReadyLaws.{scope-same}
+use Rattle.array_fixed_io.proofs.array_call_specs_ReplyLaws.{too-many-of, refused-for}
+use Rattle.array_fixed_io.proofs.array_call_specs_StepsLeft.{steps-fewer}
+use Rattle.array_fixed_io.proofs.array_call_laws_RebuildEnded.{whole-vacant, whole-after, failed-still, holder-before}
+use Rattle.array_fixed_io.proofs.array_call_laws_RebuildGiven.{receiver-recovering}
+use Rattle.array_fixed_io.proofs.array_call_laws_RebuildLaws.{losses-open, losses-end}
+use Rattle.array_fixed_io.specs.history_invariant_Safe.{world_in}
+use Rattle.array_fixed_io.proofs.array_fixed_invariant_Ending.{IsMadeWhole}
+use Rattle.array_fixed_io.specs.array_specs_Calls.{moving_world}
+use Rattle.array_fixed_io.specs.array_specs_Plans.{ArePlansKept}
+use Rattle.array_fixed_io.specs.array_fixed_laws_Steps.{IsCallUnbroken}
+use Rattle.array_fixed_io.proofs.array_specs_Called.{risen-told}
+use Rattle.array_fixed_io.proofs.array_specs_Lengths.{behind-keeps}
+use Rattle.array_fixed_io.proofs.array_fixed_laws_Kept.{ready, rows-moved}
+use Rattle.array_fixed_io.proofs.array_fixed_laws_Going.{still-going}
+use Rattle.array_fixed_io.proofs.array_fixed_laws_StepLaws.{shapes-moved, planned-same, stepped, fewer-more, losses-keep}
+use Rattle.array_fixed_io.proofs.array_fixed_laws_RebuildLaws.{alone, both, among-vacant, whole-held, whole-less, whole-done, end-lost}
+use Rattle.array_fixed_io.proofs.array_fixed_laws_PlainSteps.{gone-plain, whole-plain}
 use Rattle.std.specs.Prelude.{IfSome}
 use Rattle.std.proofs.Math.Nat.{le_trans}
-use Rattle.array_type.proofs.Asked.{known-at, known-behind, role-at, role-of-shape, sound-behind, step-taken, room-for-step, room-for-losses, done-at-all, refused-at-all, number-behind, room-behind-step, room-after-losses}
-use Rattle.array_type.proofs.Alike.{alike, stays-at-rest}
+use Rattle.array_fixed_io.proofs.array_type_Asked.{known-at, known-behind, role-at, role-of-shape, sound-behind, step-taken, room-for-step, room-for-losses, done-at-all, refused-at-all, number-behind, room-behind-step, room-after-losses}
+use Rattle.array_fixed_io.proofs.array_type_Alike.{alike, stays-at-rest}
 use Rattle.array_fixed_sync.proofs.filling.end_rebuild.Goals as goal
 
 -- ---- refused before anything is done

@@ -1,47 +1,47 @@
 use Rattle.std.proofs.Common.{◌≡◌, ℕ, ◌≤◌, ◌<◌, ◌+◌, [], ◌∷◌, ◌++◌, List, Option, None, length, inl, inr, refl, sym, ◌∙◌, ap, subst, arith}
 use Rattle.std.specs.Prelude.{IfSome}
 use Rattle.std.proofs.lemmas.List.Elements.{All-nil}
-use Rattle.array_type.specs.raid_types_the_Shape.{Shape}
-use Rattle.array_type.proofs.raid_layout_Limits.{limited}
-use Rattle.array_type.specs.sb_specs_Reading.{shape_of, is_clean, list_length, is_reshaping}
-use Rattle.array_type.specs.history_the_Entry.{Entry}
-use Rattle.array_type.specs.history_the_Event_TheVariants.{Lost, Refused, Step}
-use Rattle.array_type.specs.history_the_LostCause_TheVariants.{Fault}
-use Rattle.array_type.specs.history_the_StepKind_TheVariants.{RebuildStripe}
-use Rattle.array_type.specs.history_Plain.{entries_of}
-use Rattle.array_type.specs.history_Transfers.{last_end_from}
-use Rattle.array_type.specs.array_members_the_Work.{Work}
-use Rattle.array_type.specs.array_members_Lacking.{AreLostSince, AreTooMany, LacksTooMany}
-use Rattle.array_type.specs.array_members_Rebuilding.{Held}
-use Rattle.array_type.specs.array_members_Status.{rebuilt_of, left_of, stripes_of}
-use Rattle.array_type.proofs.array_members_Fit.{valid, short}
-use Rattle.array_type.proofs.array_members_LackingLaws.{lost-since, never-both}
-use Rattle.array_type.proofs.array_members_Still.{count-still}
-use Rattle.array_type.specs.history_append_Losing.{losses_of}
-use Rattle.array_type.proofs.history_append_CallLaws.{losses-are}
-use Rattle.array_type.specs.array_call_specs_Kept.{scope_in}
-use Rattle.array_type.specs.array_call_specs_Calls.{IsLossBy, WasSpare, HasStripeUnbuilt, AreStepsFewer, with_rebuilt, AreSparesFewer, AreStepsKept}
-use Rattle.array_type.proofs.array_call_specs_LossLaws.{losses-tail, losses-behind, ended-behind}
-use Rattle.array_type.proofs.array_call_specs_ReadyLaws.{scope-same}
-use Rattle.array_type.proofs.array_call_specs_ReplyLaws.{too-many-of, refused-for}
-use Rattle.array_type.proofs.array_call_specs_StepsLeft.{left-filled, steps-fewer, steps-kept}
-use Rattle.array_type.proofs.array_call_laws_RebuildLaws.{losses-open, losses-end}
-use Rattle.array_type.specs.history_invariant_Recorded.{IsCallGoing}
-use Rattle.array_type.specs.array_fixed_invariant_Still.{IsStill}
-use Rattle.array_type.proofs.array_fixed_invariant_Rebuilding.{IsFillingStill}
-use Rattle.array_type.specs.array_specs_Parts.{visible_size, still_left}
-use Rattle.array_type.proofs.array_specs_Called.{risen-told}
-use Rattle.array_type.proofs.array_specs_Lengths.{alone-keeps, behind-keeps}
-use Rattle.array_type.proofs.array_fixed_laws_Kept.{ready, rows-moved, with-buffers}
-use Rattle.array_type.proofs.array_fixed_laws_Going.{still-going, step-going}
-use Rattle.array_type.proofs.array_fixed_laws_StepLaws.{refused-of, shapes-moved, planned-same, stepped, fewer-more, kept-more, losses-keep}
-use Rattle.array_type.proofs.array_fixed_laws_RebuildLaws.{alone, held-some, recovering-held, among-vacant, fill-done, fill-gone, fill-refused}
-use Rattle.array_type.proofs.array_fixed_laws_PlainBehind.{lacks-here, plain-lost, plain-refused}
-use Rattle.array_type.proofs.array_fixed_laws_PlainSteps.{filled-plain}
-use Rattle.array_type.proofs.Asked.{known-at, known-behind, role-at, role-of-shape, role-behind, sound-behind, next-stripe, step-taken, room-for-step, room-for-losses, done-at-all, refused-at-all, step-entered, one-entered, room-after, room-after-losses}
-use Rattle.array_type.specs.array_members_Placed.{AreStillHeld}
+use Rattle.array_fixed_io.specs.raid_types_the_Shape.{Shape}
+use Rattle.array_fixed_io.proofs.raid_layout_Limits.{limited}
+use Rattle.array_fixed_io.specs.sb_specs_Reading.{shape_of, is_clean, list_length, is_reshaping}
+use Rattle.array_fixed_io.specs.history_the_Entry.{Entry}
+use Rattle.array_fixed_io.specs.history_the_Event_TheVariants.{Lost, Refused, Step}
+use Rattle.array_fixed_io.specs.history_the_LostCause_TheVariants.{Fault}
+use Rattle.array_fixed_io.specs.history_the_StepKind_TheVariants.{RebuildStripe}
+use Rattle.array_fixed_io.specs.history_Plain.{entries_of}
+use Rattle.array_fixed_io.specs.history_Transfers.{last_end_from}
+use Rattle.array_fixed_io.specs.array_members_the_Work.{Work}
+use Rattle.array_fixed_io.specs.array_members_Lacking.{AreLostSince, AreTooMany, LacksTooMany}
+use Rattle.array_fixed_io.specs.array_members_Rebuilding.{Held}
+use Rattle.array_fixed_io.specs.array_members_Status.{rebuilt_of, left_of, stripes_of}
+use Rattle.array_fixed_io.proofs.array_members_Fit.{valid, short}
+use Rattle.array_fixed_io.proofs.array_members_LackingLaws.{lost-since, never-both}
+use Rattle.array_fixed_io.proofs.array_members_Still.{count-still}
+use Rattle.array_fixed_io.specs.history_append_Losing.{losses_of}
+use Rattle.array_fixed_io.proofs.history_append_CallLaws.{losses-are}
+use Rattle.array_fixed_io.specs.array_call_specs_Kept.{scope_in}
+use Rattle.array_fixed_io.specs.array_call_specs_Calls.{IsLossBy, WasSpare, HasStripeUnbuilt, AreStepsFewer, with_rebuilt, AreSparesFewer, AreStepsKept}
+use Rattle.array_fixed_io.proofs.array_call_specs_LossLaws.{losses-tail, losses-behind, ended-behind}
+use Rattle.array_fixed_io.proofs.array_call_specs_ReadyLaws.{scope-same}
+use Rattle.array_fixed_io.proofs.array_call_specs_ReplyLaws.{too-many-of, refused-for}
+use Rattle.array_fixed_io.proofs.array_call_specs_StepsLeft.{left-filled, steps-fewer, steps-kept}
+use Rattle.array_fixed_io.proofs.array_call_laws_RebuildLaws.{losses-open, losses-end}
+use Rattle.array_fixed_io.specs.history_invariant_Recorded.{IsCallGoing}
+use Rattle.array_fixed_io.specs.array_fixed_invariant_Still.{IsStill}
+use Rattle.array_fixed_io.proofs.array_fixed_invariant_Rebuilding.{IsFillingStill}
+use Rattle.array_fixed_io.specs.array_specs_Parts.{visible_size, still_left}
+use Rattle.array_fixed_io.proofs.array_specs_Called.{risen-told}
+use Rattle.array_fixed_io.proofs.array_specs_Lengths.{alone-keeps, behind-keeps}
+use Rattle.array_fixed_io.proofs.array_fixed_laws_Kept.{ready, rows-moved, with-buffers}
+use Rattle.array_fixed_io.proofs.array_fixed_laws_Going.{still-going, step-going}
+use Rattle.array_fixed_io.proofs.array_fixed_laws_StepLaws.{refused-of, shapes-moved, planned-same, stepped, fewer-more, kept-more, losses-keep}
+use Rattle.array_fixed_io.proofs.array_fixed_laws_RebuildLaws.{alone, held-some, recovering-held, among-vacant, fill-done, fill-gone, fill-refused}
+use Rattle.array_fixed_io.proofs.array_fixed_laws_PlainBehind.{lacks-here, plain-lost, plain-refused}
+use Rattle.array_fixed_io.proofs.array_fixed_laws_PlainSteps.{filled-plain}
+use Rattle.array_fixed_io.proofs.array_type_Asked.{known-at, known-behind, role-at, role-of-shape, role-behind, sound-behind, next-stripe, step-taken, room-for-step, room-for-losses, done-at-all, refused-at-all, step-entered, one-entered, room-after, room-after-losses}
+use Rattle.array_fixed_io.specs.array_members_Placed.{AreStillHeld}
 use Rattle.std.proofs.Math.Nat.{le_trans}
-use Rattle.array_type.proofs.Alike.{alike, stays-at-rest}
+use Rattle.array_fixed_io.proofs.array_type_Alike.{alike, stays-at-rest}
 use Rattle.array_fixed_sync.proofs.filling.rebuild_stripe.Goals as goal
 
 -- ---- refused before anything is done

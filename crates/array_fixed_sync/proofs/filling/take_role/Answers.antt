@@ -1,46 +1,46 @@
 use Rattle.std.proofs.Common.{◌≡◌, ◌≤◌, ◌<◌, true, [], ◌∷◌, ◌++◌, Some, inl, inr, refl, sym, ◌∙◌, ap, subst, arith}
-use Rattle.array_type.specs.raid_types_the_Shape.{Shape}
-use Rattle.array_type.proofs.raid_layout_Limits.{limited}
-use Rattle.array_type.specs.sb_specs_Reading.{shape_of, list_length, is_clean, is_reshaping}
-use Rattle.array_type.specs.sb_specs_Reads.{has_spare}
-use Rattle.array_type.specs.stripe_row_Rows.{reading_of}
-use Rattle.array_type.specs.history_the_Event_TheVariants.{Step}
-use Rattle.array_type.specs.history_the_StepKind_TheVariants.{RebuildTaken}
-use Rattle.array_type.specs.history_Plain.{entries_of}
-use Rattle.array_type.specs.array_members_the_Work.{Work}
-use Rattle.array_type.specs.array_members_Lacking.{AreLostSince, AreTooMany}
-use Rattle.array_type.specs.array_members_Placed.{is_unassigned}
-use Rattle.array_type.specs.array_members_Rebuilding.{with_recovering}
-use Rattle.array_type.specs.array_members_Status.{left_of, stripes_of}
-use Rattle.array_type.proofs.array_members_Fit.{valid, short}
-use Rattle.array_type.proofs.array_members_GivenMembers.{placed-given, spare-before}
-use Rattle.array_type.proofs.array_members_LackingLaws.{lost-since, never-both}
-use Rattle.array_type.proofs.array_members_Still.{count-still}
-use Rattle.array_type.specs.history_append_Losing.{losses_of}
-use Rattle.array_type.specs.array_call_specs_Kept.{scope_in}
-use Rattle.array_type.specs.array_call_specs_Calls.{IsHeldOrGiven, WasSpare, AreStepsFewer, with_rebuilt}
-use Rattle.array_type.proofs.array_call_specs_LossLaws.{losses-before, ended-behind}
-use Rattle.array_type.proofs.array_call_specs_ReadyLaws.{scope-same}
-use Rattle.array_type.proofs.array_call_specs_ReplyLaws.{too-many-of, refused-for}
-use Rattle.array_type.proofs.array_call_specs_StepsLeft.{steps-fewer}
-use Rattle.array_type.proofs.array_call_laws_RebuildGiven.{receiver-spare, taken-vacant, taken-held, taken-by, taken-before, taken-after}
-use Rattle.array_type.specs.history_invariant_Recorded.{IsCallGoing}
-use Rattle.array_type.specs.array_fixed_invariant_Still.{IsStill}
-use Rattle.array_type.proofs.array_fixed_invariant_Rebuilding.{IsTaken}
-use Rattle.array_type.specs.array_specs_Parts.{still_left}
-use Rattle.array_type.specs.array_specs_Calls.{moving_world}
-use Rattle.array_type.specs.array_specs_Plans.{ArePlansKept}
-use Rattle.array_type.proofs.array_specs_Called.{risen-told}
-use Rattle.array_type.proofs.array_specs_Lengths.{alone-keeps, behind-keeps}
-use Rattle.array_type.proofs.array_fixed_laws_Kept.{ready, rows-moved}
-use Rattle.array_type.proofs.array_fixed_laws_Going.{step-going}
-use Rattle.array_type.proofs.array_fixed_laws_StepLaws.{shapes-moved, planned-same, stepped, stepped-more, fewer-more}
-use Rattle.array_type.proofs.array_fixed_laws_RebuildLaws.{taken-less, take-done}
-use Rattle.array_type.proofs.array_fixed_laws_PlainSteps.{taken-plain}
+use Rattle.array_fixed_io.specs.raid_types_the_Shape.{Shape}
+use Rattle.array_fixed_io.proofs.raid_layout_Limits.{limited}
+use Rattle.array_fixed_io.specs.sb_specs_Reading.{shape_of, list_length, is_clean, is_reshaping}
+use Rattle.array_fixed_io.specs.sb_specs_Reads.{has_spare}
+use Rattle.array_fixed_io.specs.stripe_row_Rows.{reading_of}
+use Rattle.array_fixed_io.specs.history_the_Event_TheVariants.{Step}
+use Rattle.array_fixed_io.specs.history_the_StepKind_TheVariants.{RebuildTaken}
+use Rattle.array_fixed_io.specs.history_Plain.{entries_of}
+use Rattle.array_fixed_io.specs.array_members_the_Work.{Work}
+use Rattle.array_fixed_io.specs.array_members_Lacking.{AreLostSince, AreTooMany}
+use Rattle.array_fixed_io.specs.array_members_Placed.{is_unassigned}
+use Rattle.array_fixed_io.specs.array_members_Rebuilding.{with_recovering}
+use Rattle.array_fixed_io.specs.array_members_Status.{left_of, stripes_of}
+use Rattle.array_fixed_io.proofs.array_members_Fit.{valid, short}
+use Rattle.array_fixed_io.proofs.array_members_GivenMembers.{placed-given, spare-before}
+use Rattle.array_fixed_io.proofs.array_members_LackingLaws.{lost-since, never-both}
+use Rattle.array_fixed_io.proofs.array_members_Still.{count-still}
+use Rattle.array_fixed_io.specs.history_append_Losing.{losses_of}
+use Rattle.array_fixed_io.specs.array_call_specs_Kept.{scope_in}
+use Rattle.array_fixed_io.specs.array_call_specs_Calls.{IsHeldOrGiven, WasSpare, AreStepsFewer, with_rebuilt}
+use Rattle.array_fixed_io.proofs.array_call_specs_LossLaws.{losses-before, ended-behind}
+use Rattle.array_fixed_io.proofs.array_call_specs_ReadyLaws.{scope-same}
+use Rattle.array_fixed_io.proofs.array_call_specs_ReplyLaws.{too-many-of, refused-for}
+use Rattle.array_fixed_io.proofs.array_call_specs_StepsLeft.{steps-fewer}
+use Rattle.array_fixed_io.proofs.array_call_laws_RebuildGiven.{receiver-spare, taken-vacant, taken-held, taken-by, taken-before, taken-after}
+use Rattle.array_fixed_io.specs.history_invariant_Recorded.{IsCallGoing}
+use Rattle.array_fixed_io.specs.array_fixed_invariant_Still.{IsStill}
+use Rattle.array_fixed_io.proofs.array_fixed_invariant_Rebuilding.{IsTaken}
+use Rattle.array_fixed_io.specs.array_specs_Parts.{still_left}
+use Rattle.array_fixed_io.specs.array_specs_Calls.{moving_world}
+use Rattle.array_fixed_io.specs.array_specs_Plans.{ArePlansKept}
+use Rattle.array_fixed_io.proofs.array_specs_Called.{risen-told}
+use Rattle.array_fixed_io.proofs.array_specs_Lengths.{alone-keeps, behind-keeps}
+use Rattle.array_fixed_io.proofs.array_fixed_laws_Kept.{ready, rows-moved}
+use Rattle.array_fixed_io.proofs.array_fixed_laws_Going.{step-going}
+use Rattle.array_fixed_io.proofs.array_fixed_laws_StepLaws.{shapes-moved, planned-same, stepped, stepped-more, fewer-more}
+use Rattle.array_fixed_io.proofs.array_fixed_laws_RebuildLaws.{taken-less, take-done}
+use Rattle.array_fixed_io.proofs.array_fixed_laws_PlainSteps.{taken-plain}
 use Rattle.std.specs.Prelude.{IfSome}
-use Rattle.array_type.proofs.array_fixed_invariant_Staying.{progress-same}
-use Rattle.array_type.proofs.Asked.{known-at, known-behind, sound-behind, step-taken, room-for-step, done-at-all, refused-at-all, step-entered, room-after}
-use Rattle.array_type.proofs.Alike.{alike, stays-at-rest}
+use Rattle.array_fixed_io.proofs.array_fixed_invariant_Staying.{progress-same}
+use Rattle.array_fixed_io.proofs.array_type_Asked.{known-at, known-behind, sound-behind, step-taken, room-for-step, done-at-all, refused-at-all, step-entered, room-after}
+use Rattle.array_fixed_io.proofs.array_type_Alike.{alike, stays-at-rest}
 use Rattle.array_fixed_sync.proofs.filling.take_role.Goals as goal
 
 -- ---- refused before anything is done

@@ -1,39 +1,39 @@
 use Rattle.std.proofs.Common.{◌≤◌, [], ◌∷◌, ◌++◌, false, None, inl, inr, refl, sym, ◌∙◌, ap, subst, arith}
-use Rattle.array_type.specs.raid_types_the_Shape.{Shape}
-use Rattle.array_type.specs.sb_specs_Reading.{list_length, is_reshaping}
-use Rattle.array_type.specs.history_the_Event_TheVariants.{Refused, Step}
-use Rattle.array_type.specs.history_the_StepKind_TheVariants.{ResyncEnded}
-use Rattle.array_type.specs.history_Plain.{entries_of}
-use Rattle.array_type.specs.array_members_Lacking.{AreLostSince, AreTooMany, AreHoldersFlushed}
-use Rattle.array_type.specs.array_members_Status.{left_of}
-use Rattle.array_type.proofs.array_members_LackingLaws.{lost-since, never-both}
-use Rattle.array_type.proofs.array_members_Still.{count-still}
-use Rattle.array_type.specs.history_append_Losing.{losses_of}
-use Rattle.array_type.specs.array_call_specs_Calls.{IsAllSynced, AreSparesFewer}
-use Rattle.array_type.proofs.array_call_specs_LossLaws.{losses-behind, ended-behind}
-use Rattle.array_type.proofs.array_call_specs_ReadyLaws.{scope-same}
-use Rattle.array_type.proofs.array_call_specs_ReplyLaws.{too-many-of, refused-for}
-use Rattle.array_type.proofs.array_call_specs_StepsLeft.{left-ended, steps-fewer, steps-kept}
-use Rattle.array_type.specs.history_invariant_Recorded.{IsCallGoing}
-use Rattle.array_type.specs.array_specs_Parts.{visible_size}
-use Rattle.array_type.proofs.array_fixed_invariant_Flushing.{IsFlushedStill, IsSettledStill}
-use Rattle.array_type.specs.array_specs_Calls.{moving_world}
-use Rattle.array_type.specs.array_specs_Plans.{ArePlansKept}
-use Rattle.array_type.proofs.array_specs_Called.{risen-told}
-use Rattle.array_type.proofs.array_specs_Lengths.{alone-keeps, behind-keeps}
-use Rattle.array_type.proofs.array_fixed_laws_Kept.{ready, rows-moved}
-use Rattle.array_type.proofs.array_fixed_laws_Going.{step-going}
-use Rattle.array_type.proofs.array_fixed_laws_StepLaws.{refused-of, shapes-moved, planned-same, stepped, fewer-more, kept-more}
-use Rattle.array_type.proofs.array_fixed_laws_ResyncLaws.{resync-done, resync-refused}
-use Rattle.array_type.proofs.array_call_specs_DegradedLaws.{too-many-here}
-use Rattle.array_type.proofs.array_fixed_laws_PlainBehind.{plain-refused}
-use Rattle.array_type.proofs.array_fixed_laws_PlainSteps.{resynced-plain}
-use Rattle.array_type.specs.array_members_the_Work.{Work}
-use Rattle.array_type.proofs.array_members_Fit.{short}
-use Rattle.array_type.proofs.Asked.{known-at, few-at, known-behind, sound-behind, step-taken, room-for-step, one-entered, step-behind, room-after}
-use Rattle.array_type.specs.array_members_Placed.{AreStillHeld}
-use Rattle.array_type.specs.stripe_row_Rows.{reading_of}
-use Rattle.array_type.proofs.Alike.{alike, stays-at-rest}
+use Rattle.array_fixed_io.specs.raid_types_the_Shape.{Shape}
+use Rattle.array_fixed_io.specs.sb_specs_Reading.{list_length, is_reshaping}
+use Rattle.array_fixed_io.specs.history_the_Event_TheVariants.{Refused, Step}
+use Rattle.array_fixed_io.specs.history_the_StepKind_TheVariants.{ResyncEnded}
+use Rattle.array_fixed_io.specs.history_Plain.{entries_of}
+use Rattle.array_fixed_io.specs.array_members_Lacking.{AreLostSince, AreTooMany, AreHoldersFlushed}
+use Rattle.array_fixed_io.specs.array_members_Status.{left_of}
+use Rattle.array_fixed_io.proofs.array_members_LackingLaws.{lost-since, never-both}
+use Rattle.array_fixed_io.proofs.array_members_Still.{count-still}
+use Rattle.array_fixed_io.specs.history_append_Losing.{losses_of}
+use Rattle.array_fixed_io.specs.array_call_specs_Calls.{IsAllSynced, AreSparesFewer}
+use Rattle.array_fixed_io.proofs.array_call_specs_LossLaws.{losses-behind, ended-behind}
+use Rattle.array_fixed_io.proofs.array_call_specs_ReadyLaws.{scope-same}
+use Rattle.array_fixed_io.proofs.array_call_specs_ReplyLaws.{too-many-of, refused-for}
+use Rattle.array_fixed_io.proofs.array_call_specs_StepsLeft.{left-ended, steps-fewer, steps-kept}
+use Rattle.array_fixed_io.specs.history_invariant_Recorded.{IsCallGoing}
+use Rattle.array_fixed_io.specs.array_specs_Parts.{visible_size}
+use Rattle.array_fixed_io.proofs.array_fixed_invariant_Flushing.{IsFlushedStill, IsSettledStill}
+use Rattle.array_fixed_io.specs.array_specs_Calls.{moving_world}
+use Rattle.array_fixed_io.specs.array_specs_Plans.{ArePlansKept}
+use Rattle.array_fixed_io.proofs.array_specs_Called.{risen-told}
+use Rattle.array_fixed_io.proofs.array_specs_Lengths.{alone-keeps, behind-keeps}
+use Rattle.array_fixed_io.proofs.array_fixed_laws_Kept.{ready, rows-moved}
+use Rattle.array_fixed_io.proofs.array_fixed_laws_Going.{step-going}
+use Rattle.array_fixed_io.proofs.array_fixed_laws_StepLaws.{refused-of, shapes-moved, planned-same, stepped, fewer-more, kept-more}
+use Rattle.array_fixed_io.proofs.array_fixed_laws_ResyncLaws.{resync-done, resync-refused}
+use Rattle.array_fixed_io.proofs.array_call_specs_DegradedLaws.{too-many-here}
+use Rattle.array_fixed_io.proofs.array_fixed_laws_PlainBehind.{plain-refused}
+use Rattle.array_fixed_io.proofs.array_fixed_laws_PlainSteps.{resynced-plain}
+use Rattle.array_fixed_io.specs.array_members_the_Work.{Work}
+use Rattle.array_fixed_io.proofs.array_members_Fit.{short}
+use Rattle.array_fixed_io.proofs.array_type_Asked.{known-at, few-at, known-behind, sound-behind, step-taken, room-for-step, one-entered, step-behind, room-after}
+use Rattle.array_fixed_io.specs.array_members_Placed.{AreStillHeld}
+use Rattle.array_fixed_io.specs.stripe_row_Rows.{reading_of}
+use Rattle.array_fixed_io.proofs.array_type_Alike.{alike, stays-at-rest}
 use Rattle.array_fixed_sync.proofs.mending.end_resync.Goals as goal
 
 -- ---- refused before anything is done

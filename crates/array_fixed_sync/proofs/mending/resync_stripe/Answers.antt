@@ -1,38 +1,38 @@
 use Rattle.std.proofs.Common.{◌≡◌, ◌≤◌, ◌<◌, ◌/◌, ◌+◌, [], ◌∷◌, ◌++◌, false, Some, inl, refl, sym, ◌∙◌, ap, subst, arith, Option, ℕ}
-use Rattle.array_type.specs.raid_types_the_Shape.{Shape}
-use Rattle.array_type.specs.sb_specs_Reading.{list_length, shape_of, is_reshaping}
-use Rattle.array_type.specs.history_the_Event_TheVariants.{Refused, Step}
-use Rattle.array_type.specs.history_the_StepKind_TheVariants.{ResyncStripe}
-use Rattle.array_type.specs.history_Plain.{entries_of}
-use Rattle.array_type.specs.array_members_Lacking.{AreLostSince, IsUnwritten}
-use Rattle.array_type.specs.array_members_Status.{left_of}
-use Rattle.array_type.proofs.array_members_LackingLaws.{lost-since, does-without}
-use Rattle.array_type.proofs.array_members_Still.{count-still}
-use Rattle.array_type.specs.history_append_Losing.{losses_of}
-use Rattle.array_type.specs.sb_safe_updates_First.{write_refusal}
-use Rattle.array_type.specs.array_call_specs_Calls.{HasStripeLeft, IsUnmendable, one_more, AreSparesFewer}
-use Rattle.array_type.proofs.array_call_specs_LossLaws.{losses-behind, ended-behind}
-use Rattle.array_type.proofs.array_call_specs_ReadyLaws.{scope-same}
-use Rattle.array_type.proofs.array_call_specs_ReplyLaws.{unwritten-of, refused-for}
-use Rattle.array_type.proofs.array_call_specs_StepsLeft.{left-mended, steps-fewer, steps-kept}
-use Rattle.array_type.proofs.array_state_UnmendableLaws.{unmendable-of, unwritten-then}
-use Rattle.array_type.proofs.array_call_laws_ResyncLaws.{is-pending, next-stripe}
-use Rattle.array_type.specs.history_invariant_Recorded.{IsCallGoing}
-use Rattle.array_type.specs.array_specs_Parts.{visible_size}
-use Rattle.array_type.proofs.array_fixed_invariant_Resync.{IsResyncingStill}
-use Rattle.array_type.proofs.array_specs_Called.{risen-told}
-use Rattle.array_type.proofs.array_specs_Lengths.{alone-keeps, behind-keeps}
-use Rattle.array_type.proofs.array_fixed_laws_Kept.{ready, rows-moved, with-buffers}
-use Rattle.array_type.proofs.array_fixed_laws_Going.{step-going}
-use Rattle.array_type.proofs.array_fixed_laws_StepLaws.{refused-of, shapes-moved, planned-same, stepped, fewer-more, kept-more}
-use Rattle.array_type.proofs.array_fixed_laws_ResyncLaws.{mend-done, mend-refused}
-use Rattle.array_type.proofs.array_fixed_laws_PlainBehind.{unmended-plain, plain-refused}
-use Rattle.array_type.proofs.array_fixed_laws_PlainSteps.{mended-plain}
-use Rattle.array_type.specs.array_members_Placed.{AreStillHeld}
-use Rattle.array_type.proofs.array_members_Fit.{valid, short}
-use Rattle.array_type.proofs.Rested.{one-less, pending-left, room-of-step, shape-few, shape-known, stripe-fits, stripe-more}
-use Rattle.array_type.proofs.Asked.{sound-behind}
-use Rattle.array_type.proofs.Alike.{alike, stays-at-rest}
+use Rattle.array_fixed_io.specs.raid_types_the_Shape.{Shape}
+use Rattle.array_fixed_io.specs.sb_specs_Reading.{list_length, shape_of, is_reshaping}
+use Rattle.array_fixed_io.specs.history_the_Event_TheVariants.{Refused, Step}
+use Rattle.array_fixed_io.specs.history_the_StepKind_TheVariants.{ResyncStripe}
+use Rattle.array_fixed_io.specs.history_Plain.{entries_of}
+use Rattle.array_fixed_io.specs.array_members_Lacking.{AreLostSince, IsUnwritten}
+use Rattle.array_fixed_io.specs.array_members_Status.{left_of}
+use Rattle.array_fixed_io.proofs.array_members_LackingLaws.{lost-since, does-without}
+use Rattle.array_fixed_io.proofs.array_members_Still.{count-still}
+use Rattle.array_fixed_io.specs.history_append_Losing.{losses_of}
+use Rattle.array_fixed_io.specs.sb_safe_updates_First.{write_refusal}
+use Rattle.array_fixed_io.specs.array_call_specs_Calls.{HasStripeLeft, IsUnmendable, one_more, AreSparesFewer}
+use Rattle.array_fixed_io.proofs.array_call_specs_LossLaws.{losses-behind, ended-behind}
+use Rattle.array_fixed_io.proofs.array_call_specs_ReadyLaws.{scope-same}
+use Rattle.array_fixed_io.proofs.array_call_specs_ReplyLaws.{unwritten-of, refused-for}
+use Rattle.array_fixed_io.proofs.array_call_specs_StepsLeft.{left-mended, steps-fewer, steps-kept}
+use Rattle.array_fixed_io.proofs.array_state_UnmendableLaws.{unmendable-of, unwritten-then}
+use Rattle.array_fixed_io.proofs.array_call_laws_ResyncLaws.{is-pending, next-stripe}
+use Rattle.array_fixed_io.specs.history_invariant_Recorded.{IsCallGoing}
+use Rattle.array_fixed_io.specs.array_specs_Parts.{visible_size}
+use Rattle.array_fixed_io.proofs.array_fixed_invariant_Resync.{IsResyncingStill}
+use Rattle.array_fixed_io.proofs.array_specs_Called.{risen-told}
+use Rattle.array_fixed_io.proofs.array_specs_Lengths.{alone-keeps, behind-keeps}
+use Rattle.array_fixed_io.proofs.array_fixed_laws_Kept.{ready, rows-moved, with-buffers}
+use Rattle.array_fixed_io.proofs.array_fixed_laws_Going.{step-going}
+use Rattle.array_fixed_io.proofs.array_fixed_laws_StepLaws.{refused-of, shapes-moved, planned-same, stepped, fewer-more, kept-more}
+use Rattle.array_fixed_io.proofs.array_fixed_laws_ResyncLaws.{mend-done, mend-refused}
+use Rattle.array_fixed_io.proofs.array_fixed_laws_PlainBehind.{unmended-plain, plain-refused}
+use Rattle.array_fixed_io.proofs.array_fixed_laws_PlainSteps.{mended-plain}
+use Rattle.array_fixed_io.specs.array_members_Placed.{AreStillHeld}
+use Rattle.array_fixed_io.proofs.array_members_Fit.{valid, short}
+use Rattle.array_fixed_io.proofs.array_type_Rested.{one-less, pending-left, room-of-step, shape-few, shape-known, stripe-fits, stripe-more}
+use Rattle.array_fixed_io.proofs.array_type_Asked.{sound-behind}
+use Rattle.array_fixed_io.proofs.array_type_Alike.{alike, stays-at-rest}
 use Rattle.array_fixed_sync.proofs.mending.resync_stripe.Goals as goal
 
 -- ---- refused before anything is done

@@ -1,22 +1,22 @@
 use Rattle.std.proofs.Common.{◌≡◌, inl, inr, ℕ, ◌<◌, ◌||◌, Bool, true, false, not, Some, None, Option, is_some, refl, sym, ◌∙◌, ap, subst, arith, ⊎_elim, ◌≤◌}
-use Rattle.array_type.specs.bank_Given.{Given}
-use Rattle.array_type.specs.raid_types_the_Refusal.{Refusal}
-use Rattle.array_type.specs.raid_types_the_Shape.{Shape}
-use Rattle.array_type.specs.raid_types_the_Role.{Role}
-use Rattle.array_type.specs.raid_types_the_Role_TheVariants.{Recovering}
-use Rattle.array_type.specs.sb_specs_the_Members.{Members}
-use Rattle.array_type.specs.sb_specs_Reading.{holder, role_state, shape_of}
-use Rattle.array_type.specs.stripe_row_Rows.{reading_of, present}
-use Rattle.array_type.specs.history_Sound.{OpensFit}
-use Rattle.array_type.specs.crash_safety_laws_Marking.{AreOthersPresent}
-use Rattle.array_type.proofs.crash_safety_laws_Risen.{risen-then, room-first, room-then}
-use Rattle.array_type.specs.array_members_Placed.{IsPlaced, is_unassigned}
-use Rattle.array_type.specs.array_members_Rebuilding.{AreSparesFree}
-use Rattle.array_type.proofs.array_members_LackingLaws.{since-then, in-either}
-use Rattle.array_type.proofs.array_members_MovedLaws.{grows-then, moved-then, moved-from}
-use Rattle.array_type.proofs.array_members_SafeStretch.{gone-before, safe-then, grows-longer, over-at, keeps-from}
+use Rattle.array_fixed_io.specs.bank_Given.{Given}
+use Rattle.array_fixed_io.specs.raid_types_the_Refusal.{Refusal}
+use Rattle.array_fixed_io.specs.raid_types_the_Shape.{Shape}
+use Rattle.array_fixed_io.specs.raid_types_the_Role.{Role}
+use Rattle.array_fixed_io.specs.raid_types_the_Role_TheVariants.{Recovering}
+use Rattle.array_fixed_io.specs.sb_specs_the_Members.{Members}
+use Rattle.array_fixed_io.specs.sb_specs_Reading.{holder, role_state, shape_of}
+use Rattle.array_fixed_io.specs.stripe_row_Rows.{reading_of, present}
+use Rattle.array_fixed_io.specs.history_Sound.{OpensFit}
+use Rattle.array_fixed_io.specs.crash_safety_laws_Marking.{AreOthersPresent}
+use Rattle.array_fixed_io.proofs.crash_safety_laws_Risen.{risen-then, room-first, room-then}
+use Rattle.array_fixed_io.specs.array_members_Placed.{IsPlaced, is_unassigned}
+use Rattle.array_fixed_io.specs.array_members_Rebuilding.{AreSparesFree}
+use Rattle.array_fixed_io.proofs.array_members_LackingLaws.{since-then, in-either}
+use Rattle.array_fixed_io.proofs.array_members_MovedLaws.{grows-then, moved-then, moved-from}
+use Rattle.array_fixed_io.proofs.array_members_SafeStretch.{gone-before, safe-then, grows-longer, over-at, keeps-from}
 use Rattle.std.proofs.Math.Nat.{le_trans}
-use Rattle.array_type.proofs.array_call_specs_DegradedLaws.{within-count}
+use Rattle.array_fixed_io.proofs.array_call_specs_DegradedLaws.{within-count}
 use Rattle.array_fixed_sync.proofs.naming.fill_and_name.Goals as goal
 
 -- of two tests that fail the second fails

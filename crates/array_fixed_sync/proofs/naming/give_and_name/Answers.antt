@@ -1,15 +1,15 @@
 use Rattle.std.proofs.Common.{Some, refl, sym, ◌∙◌, subst, ◌≤◌}
-use Rattle.array_type.specs.bank_Given.{Given}
-use Rattle.array_type.specs.history_Sound.{OpensFit}
-use Rattle.array_type.specs.stripe_row_Rows.{present}
-use Rattle.array_type.specs.crash_safety_laws_Marking.{AreOthersPresent}
-use Rattle.array_type.proofs.crash_safety_laws_Risen.{risen-then, room-first, room-then}
-use Rattle.array_type.specs.array_members_Placed.{IsPlaced}
-use Rattle.array_type.specs.array_members_Rebuilding.{AreSparesFree, with_recovering}
-use Rattle.array_type.proofs.array_members_LackingLaws.{since-then, in-either}
-use Rattle.array_type.proofs.array_members_MovedLaws.{grows-then, moved-then, moved-from}
-use Rattle.array_type.proofs.array_members_SafeStretch.{gone-before, safe-then, grows-longer, over-at, keeps-from}
-use Rattle.array_type.proofs.array_call_laws_RebuildGiven.{receiver-spare, free-then}
+use Rattle.array_fixed_io.specs.bank_Given.{Given}
+use Rattle.array_fixed_io.specs.history_Sound.{OpensFit}
+use Rattle.array_fixed_io.specs.stripe_row_Rows.{present}
+use Rattle.array_fixed_io.specs.crash_safety_laws_Marking.{AreOthersPresent}
+use Rattle.array_fixed_io.proofs.crash_safety_laws_Risen.{risen-then, room-first, room-then}
+use Rattle.array_fixed_io.specs.array_members_Placed.{IsPlaced}
+use Rattle.array_fixed_io.specs.array_members_Rebuilding.{AreSparesFree, with_recovering}
+use Rattle.array_fixed_io.proofs.array_members_LackingLaws.{since-then, in-either}
+use Rattle.array_fixed_io.proofs.array_members_MovedLaws.{grows-then, moved-then, moved-from}
+use Rattle.array_fixed_io.proofs.array_members_SafeStretch.{gone-before, safe-then, grows-longer, over-at, keeps-from}
+use Rattle.array_fixed_io.proofs.array_call_laws_RebuildGiven.{receiver-spare, free-then}
 use Rattle.std.proofs.Math.Nat.{le_trans}
 use Rattle.array_fixed_sync.proofs.naming.give_and_name.Goals as goal
 

@@ -1,25 +1,25 @@
 use Rattle.std.proofs.Common.{None, ◌≡◌, ℕ, ◌==◌, ◌&&◌, Bool, true, false, not, refl, sym, ◌∙◌, ap, subst, arith, ◌≤◌}
 use Rattle.std.proofs.lemmas.Bool.Decides.{nat_tests}
-use Rattle.array_type.specs.raid_types_the_Role.{Role}
-use Rattle.array_type.specs.raid_types_the_Role_TheVariants.{Whole}
-use Rattle.array_type.specs.bank_Given.{Given}
-use Rattle.array_type.specs.history_Sound.{OpensFit}
-use Rattle.array_type.specs.history_World.{World}
-use Rattle.array_type.specs.sb_specs_the_Members.{Members}
-use Rattle.array_type.specs.sb_specs_Reading.{is_whole, holder, role_state}
-use Rattle.array_type.specs.stripe_row_Rows.{reading_of, present, is_missing}
-use Rattle.array_type.specs.crash_safety_laws_Marking.{AreOthersPresent}
-use Rattle.array_type.specs.crash_safety_laws_Safety.{HasRoomLeft}
-use Rattle.array_type.specs.crash_safety_laws_Steady.{IsSafeOver, KeepsSafe, AreGoneTold, IsUncleanTold, given_back}
-use Rattle.array_type.specs.crash_views_Views.{Ledger}
-use Rattle.array_type.specs.array_members_Moving.{IsMoved}
-use Rattle.array_type.proofs.crash_safety_laws_Risen.{risen-then, room-first, room-then}
-use Rattle.array_type.specs.array_members_Placed.{IsPlaced}
-use Rattle.array_type.specs.array_members_Rebuilding.{AreSparesFree, with_whole}
-use Rattle.array_type.proofs.array_members_LackingLaws.{since-then, in-either}
-use Rattle.array_type.proofs.array_members_MovedLaws.{grows-then, moved-then, moved-from}
-use Rattle.array_type.proofs.array_members_SafeStretch.{gone-before, safe-then, grows-longer, over-at, keeps-from}
-use Rattle.array_type.proofs.array_call_laws_RebuildGiven.{receiver-recovering, free-then}
+use Rattle.array_fixed_io.specs.raid_types_the_Role.{Role}
+use Rattle.array_fixed_io.specs.raid_types_the_Role_TheVariants.{Whole}
+use Rattle.array_fixed_io.specs.bank_Given.{Given}
+use Rattle.array_fixed_io.specs.history_Sound.{OpensFit}
+use Rattle.array_fixed_io.specs.history_World.{World}
+use Rattle.array_fixed_io.specs.sb_specs_the_Members.{Members}
+use Rattle.array_fixed_io.specs.sb_specs_Reading.{is_whole, holder, role_state}
+use Rattle.array_fixed_io.specs.stripe_row_Rows.{reading_of, present, is_missing}
+use Rattle.array_fixed_io.specs.crash_safety_laws_Marking.{AreOthersPresent}
+use Rattle.array_fixed_io.specs.crash_safety_laws_Safety.{HasRoomLeft}
+use Rattle.array_fixed_io.specs.crash_safety_laws_Steady.{IsSafeOver, KeepsSafe, AreGoneTold, IsUncleanTold, given_back}
+use Rattle.array_fixed_io.specs.crash_views_Views.{Ledger}
+use Rattle.array_fixed_io.specs.array_members_Moving.{IsMoved}
+use Rattle.array_fixed_io.proofs.crash_safety_laws_Risen.{risen-then, room-first, room-then}
+use Rattle.array_fixed_io.specs.array_members_Placed.{IsPlaced}
+use Rattle.array_fixed_io.specs.array_members_Rebuilding.{AreSparesFree, with_whole}
+use Rattle.array_fixed_io.proofs.array_members_LackingLaws.{since-then, in-either}
+use Rattle.array_fixed_io.proofs.array_members_MovedLaws.{grows-then, moved-then, moved-from}
+use Rattle.array_fixed_io.proofs.array_members_SafeStretch.{gone-before, safe-then, grows-longer, over-at, keeps-from}
+use Rattle.array_fixed_io.proofs.array_call_laws_RebuildGiven.{receiver-recovering, free-then}
 use Rattle.array_fixed_sync.proofs.naming.record_and_name.Given.{Over}
 use Rattle.array_fixed_sync.proofs.naming.record_and_name.Goals.{After-record_missing-others}
 use Rattle.std.proofs.Math.Nat.{le_trans}

@@ -1,11 +1,11 @@
 use Rattle.std.proofs.Common.{◌≡◌, inl, inr, ℕ, Option, Some, None, sym, ◌∙◌, ap, subst₂}
-use Rattle.array_type.specs.sb_specs_the_Members.{Members}
+use Rattle.array_fixed_io.specs.sb_specs_the_Members.{Members}
 use Rattle.std.specs.Prelude.{unwrap_or}
-use Rattle.array_type.specs.history_the_StepKind_TheVariants.{RebuildTaken, RebuildStripe, RebuildEnded}
-use Rattle.array_type.specs.array_specs_Parts.{still_left}
-use Rattle.array_type.specs.array_call_specs_Calls.{IsHeldOrGiven}
-use Rattle.array_type.specs.array_members_Rebuilding.{Held}
-use Rattle.array_type.specs.Rebuilding.{first_recovering, first_unassigned, first_spare, IsRebuildNext, IsHeldOrNext, rebuild_kind}
+use Rattle.array_fixed_io.specs.history_the_StepKind_TheVariants.{RebuildTaken, RebuildStripe, RebuildEnded}
+use Rattle.array_fixed_io.specs.array_specs_Parts.{still_left}
+use Rattle.array_fixed_io.specs.array_call_specs_Calls.{IsHeldOrGiven}
+use Rattle.array_fixed_io.specs.array_members_Rebuilding.{Held}
+use Rattle.array_fixed_io.specs.array_type_Rebuilding.{first_recovering, first_unassigned, first_spare, IsRebuildNext, IsHeldOrNext, rebuild_kind}
 use Rattle.array_fixed_sync.proofs.RebuildParts.{disks-as, roles-as, role-below, less-as, most-as, stripe-no-end, stripe-not-taken, end-not-taken, taken-no-end, work-as, work-same, whole-at}
 use Rattle.array_fixed_sync.proofs.RebuildLaws.{not-taking, given-to, found-below, found-recovered, role-recovered, kind-filled, kind-ended, kind-taken, IsTaking, takes-next, entered-as, kept-stepped, not-end, at-end}
 use Rattle.array_fixed_sync.proofs.NextLaws.{stepped-wider}

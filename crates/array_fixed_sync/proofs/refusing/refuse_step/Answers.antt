@@ -1,21 +1,21 @@
 use Rattle.std.proofs.Common.{◌≡◌, ◌≤◌, [], ◌∷◌, None, inl, refl, sym, ap, subst, arith, ◌∙◌}
-use Rattle.array_type.specs.history_the_Event_TheVariants.{Refused}
-use Rattle.array_type.specs.history_Plain.{entries_of}
-use Rattle.array_type.specs.array_members_Lacking.{AreTooMany}
-use Rattle.array_type.proofs.array_members_MovedLaws.{grows-none}
-use Rattle.array_type.specs.array_call_specs_Calls.{IsUnmendable}
-use Rattle.array_type.proofs.array_call_specs_LossLaws.{ended-behind, behind-alone}
-use Rattle.array_type.proofs.array_call_specs_ReadyLaws.{scope-same}
-use Rattle.array_type.specs.history_invariant_Recorded.{IsCallGoing}
-use Rattle.array_type.specs.array_specs_Parts.{visible_size}
-use Rattle.array_type.proofs.array_specs_Called.{alone-lossless}
-use Rattle.array_type.proofs.array_specs_Lengths.{alone-keeps}
-use Rattle.array_type.proofs.array_fixed_laws_Kept.{ready, rows-same}
-use Rattle.array_type.proofs.array_fixed_laws_Going.{still-going}
-use Rattle.array_type.proofs.array_fixed_laws_StepLaws.{shapes-same, stepped, step-refused, refused-going}
-use Rattle.array_type.proofs.array_fixed_laws_PlainBehind.{step-here, here-plain}
-use Rattle.array_type.proofs.Alike.{alike, stays-at-rest}
-use Rattle.array_type.specs.sb_specs_Reading.{is_reshaping}
+use Rattle.array_fixed_io.specs.history_the_Event_TheVariants.{Refused}
+use Rattle.array_fixed_io.specs.history_Plain.{entries_of}
+use Rattle.array_fixed_io.specs.array_members_Lacking.{AreTooMany}
+use Rattle.array_fixed_io.proofs.array_members_MovedLaws.{grows-none}
+use Rattle.array_fixed_io.specs.array_call_specs_Calls.{IsUnmendable}
+use Rattle.array_fixed_io.proofs.array_call_specs_LossLaws.{ended-behind, behind-alone}
+use Rattle.array_fixed_io.proofs.array_call_specs_ReadyLaws.{scope-same}
+use Rattle.array_fixed_io.specs.history_invariant_Recorded.{IsCallGoing}
+use Rattle.array_fixed_io.specs.array_specs_Parts.{visible_size}
+use Rattle.array_fixed_io.proofs.array_specs_Called.{alone-lossless}
+use Rattle.array_fixed_io.proofs.array_specs_Lengths.{alone-keeps}
+use Rattle.array_fixed_io.proofs.array_fixed_laws_Kept.{ready, rows-same}
+use Rattle.array_fixed_io.proofs.array_fixed_laws_Going.{still-going}
+use Rattle.array_fixed_io.proofs.array_fixed_laws_StepLaws.{shapes-same, stepped, step-refused, refused-going}
+use Rattle.array_fixed_io.proofs.array_fixed_laws_PlainBehind.{step-here, here-plain}
+use Rattle.array_fixed_io.proofs.array_type_Alike.{alike, stays-at-rest}
+use Rattle.array_fixed_io.specs.sb_specs_Reading.{is_reshaping}
 use Rattle.array_fixed_sync.proofs.refusing.refuse_step.Goals as goal
 
 pub invariant_of-still : goal.invariant_of-still

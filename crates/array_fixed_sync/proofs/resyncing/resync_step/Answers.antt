@@ -1,7 +1,7 @@
 use Rattle.std.proofs.Common.{true, false, ◌∙◌, sym}
-use Rattle.array_type.specs.history_the_StepKind_TheVariants.{ResyncStripe, ResyncEnded}
-use Rattle.array_type.specs.sb_specs_Reading.{list_length}
-use Rattle.array_type.specs.array_specs_Parts.{still_left}
+use Rattle.array_fixed_io.specs.history_the_StepKind_TheVariants.{ResyncStripe, ResyncEnded}
+use Rattle.array_fixed_io.specs.sb_specs_Reading.{list_length}
+use Rattle.array_fixed_io.specs.array_specs_Parts.{still_left}
 use Rattle.array_fixed_sync.specs.Resyncing.{is_at_end}
 use Rattle.array_fixed_sync.proofs.ResyncLaws.{kept-settled, at_end-is, caused-as, ok-so}
 use Rattle.array_fixed_sync.proofs.resyncing.resync_step.Goals as goal

@@ -1,9 +1,9 @@
 use Rattle.std.proofs.Common.{◌≡◌, inl, ℕ, Option, Some, None, is_some, Bool, false, sym, ◌∙◌, ap, refl}
-use Rattle.array_type.specs.sb_specs_Reading.{is_clean, list_length}
-use Rattle.array_type.specs.array_members_Rebuilding.{Held}
-use Rattle.array_type.specs.array_specs_Parts.{still_left}
+use Rattle.array_fixed_io.specs.sb_specs_Reading.{is_clean, list_length}
+use Rattle.array_fixed_io.specs.array_members_Rebuilding.{Held}
+use Rattle.array_fixed_io.specs.array_specs_Parts.{still_left}
 use Rattle.array_fixed_sync.specs.Resyncing.{is_at_end}
-use Rattle.array_type.specs.Rebuilding.{IsHeldOrNext}
+use Rattle.array_fixed_io.specs.array_type_Rebuilding.{IsHeldOrNext}
 use Rattle.array_fixed_sync.specs.Stepping.{IsHeldOrDue}
 use Rattle.array_fixed_sync.proofs.ResyncLaws.{ok-so}
 use Rattle.array_fixed_sync.proofs.NextLaws.{next-rebuild, next-same, held-due, resync-end, rebuild-end, undone-caused, stepped-wider}

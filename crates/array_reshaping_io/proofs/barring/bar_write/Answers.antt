@@ -19,7 +19,7 @@ use Rattle.array_reshaping_steps.proofs.array_reshaping_laws_BarredLaws.{barred-
 use Rattle.array_reshaping_steps.specs.raid_types_the_Fault_TheVariants.{NoMemory}
 use Rattle.array_reshaping_steps.proofs.array_reshaping_laws_FirstLaws.{first-short}
 use Rattle.array_reshaping_steps.specs.array_members_Lacking.{HaveRolesFailed}
-use Rattle.array_reshaping_steps.proofs.array_reshaping_Calls.{two-of-101}
+use Rattle.array_reshaping_steps.proofs.array_type_ReshapingCalls.{two-of-101}
 use Rattle.array_reshaping_steps.proofs.array_type_Alike.{alike, goes-on}
 use Rattle.array_reshaping_io.proofs.barring.bar_write.Goals as goal
 

@@ -29,7 +29,7 @@ use Rattle.array_reshaping_steps.proofs.array_reshaping_laws_Kept.{ready, shapes
 use Rattle.array_reshaping_steps.proofs.array_reshaping_laws_WriteLaws.{first-right, torn-missing}
 use Rattle.array_reshaping_steps.proofs.array_reshaping_laws_BarredLaws.{unwritten-barred}
 use Rattle.array_reshaping_steps.proofs.array_reshaping_laws_FirstLaws.{first-told, first-none}
-use Rattle.array_reshaping_steps.proofs.array_reshaping_Calls.{refused-same}
+use Rattle.array_reshaping_steps.proofs.array_type_ReshapingCalls.{refused-same}
 use Rattle.array_reshaping_steps.proofs.array_specs_Lengths.{alone-keeps}
 use Rattle.array_reshaping_steps.proofs.array_type_Alike.{alike, goes-on}
 use Rattle.array_reshaping_steps.specs.sb_specs_Reading.{is_reshaping}

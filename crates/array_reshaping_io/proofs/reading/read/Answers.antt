@@ -40,7 +40,7 @@ use Rattle.array_reshaping_steps.specs.raid_types_the_Fault_TheVariants.{Refused
 use Rattle.array_reshaping_steps.specs.bank_Tape.{AreSectors}
 use Rattle.array_reshaping_steps.proofs.array_reshaping_laws_WriteLaws.{roomed, called-roomed}
 use Rattle.array_reshaping_steps.proofs.array_reshaping_laws_FirstLaws.{first-short, first-told, first-none, first-seen}
-use Rattle.array_reshaping_steps.proofs.array_reshaping_Calls.{still-called, one-of-51, whole-as, some-of, called-over, never-falls}
+use Rattle.array_reshaping_steps.proofs.array_type_ReshapingCalls.{still-called, one-of-51, whole-as, some-of, called-over, never-falls}
 use Rattle.array_reshaping_steps.specs.stripe_row_Rows.{present}
 use Rattle.array_reshaping_steps.specs.array_members_Lacking.{HaveRolesFailed}
 use Rattle.array_reshaping_steps.proofs.array_specs_Lengths.{alone-keeps}

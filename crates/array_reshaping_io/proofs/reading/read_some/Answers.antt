@@ -43,7 +43,7 @@ use Rattle.array_reshaping_steps.proofs.array_specs_VisibleLaws.{visible-within}
 use Rattle.array_reshaping_steps.proofs.array_reshaping_laws_Kept.{ready, with-buffer, shapes-moved, left-moved, behind-keeps, behind-whole, written-whole}
 use Rattle.array_reshaping_steps.proofs.array_specs_Called.{not_254, called, risen-told}
 use Rattle.array_reshaping_steps.proofs.array_reshaping_laws_Reading.{IsFetched, read-live, read-some, room-taken, unread-moves, read-moves, holds-read, beside-unread, unread-missing, read-does, asked-is, hidden-fits, holds-sliced}
-use Rattle.array_reshaping_steps.proofs.array_reshaping_Calls.{room-49, known-moved, le-same, room-after-49, scratch-of, whole-as, within-same, called-over}
+use Rattle.array_reshaping_steps.proofs.array_type_ReshapingCalls.{room-49, known-moved, le-same, room-after-49, scratch-of, whole-as, within-same, called-over}
 use Rattle.std.proofs.lemmas.List.{length-take-le}
 use Rattle.array_reshaping_steps.specs.crash_safety_laws_Marking.{AreOthersPresent}
 use Rattle.array_reshaping_steps.proofs.array_type_Alike.{alike, goes-on}

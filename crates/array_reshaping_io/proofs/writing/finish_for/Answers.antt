@@ -22,7 +22,7 @@ use Rattle.array_reshaping_steps.proofs.array_specs_Called.{not_254, called, alo
 use Rattle.array_reshaping_steps.proofs.array_reshaping_laws_Kept.{ready, shapes-same}
 use Rattle.array_reshaping_steps.proofs.array_reshaping_laws_WriteLaws.{first-right, wider-refused, finish-caused}
 use Rattle.array_reshaping_steps.proofs.array_reshaping_laws_FirstLaws.{first-told, first-none}
-use Rattle.array_reshaping_steps.proofs.array_reshaping_Calls.{one-less}
+use Rattle.array_reshaping_steps.proofs.array_type_ReshapingCalls.{one-less}
 use Rattle.array_reshaping_steps.proofs.array_specs_Lengths.{alone-keeps}
 use Rattle.array_reshaping_steps.proofs.array_type_Alike.{alike, goes-on}
 use Rattle.array_reshaping_io.proofs.writing.finish_for.Goals as goal

@@ -37,7 +37,7 @@ use Rattle.array_reshaping_steps.proofs.array_specs_Called.{not_254, called, alo
 use Rattle.array_reshaping_steps.proofs.array_reshaping_laws_Kept.{ready, shapes-same, shapes-moved, behind-keeps, behind-whole, left-moved}
 use Rattle.array_reshaping_steps.proofs.array_reshaping_laws_WriteLaws.{first-right, wrote-kept, unwritten-kept, with-rooms, failure-whole, torn-missing}
 use Rattle.array_reshaping_steps.proofs.array_reshaping_laws_FirstLaws.{first-told, first-none}
-use Rattle.array_reshaping_steps.proofs.array_reshaping_Calls.{room-49, room-50, known-moved, le-same, never-falls, room-after-1, room-after-49, room-after-50, called-over}
+use Rattle.array_reshaping_steps.proofs.array_type_ReshapingCalls.{room-49, room-50, known-moved, le-same, never-falls, room-after-1, room-after-49, room-after-50, called-over}
 use Rattle.array_reshaping_steps.proofs.array_specs_Lengths.{alone-keeps, failure-keeps}
 use Rattle.array_reshaping_steps.proofs.array_type_Alike.{alike, goes-on}
 use Rattle.array_reshaping_io.proofs.writing.write_beside.Goals as goal

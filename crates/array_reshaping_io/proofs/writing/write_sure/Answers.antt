@@ -33,7 +33,7 @@ use Rattle.std.specs.Prelude.{OnOk}
 use Rattle.array_reshaping_steps.specs.raid_types_the_Fault.{Fault}
 use Rattle.array_reshaping_steps.specs.raid_types_the_Who.{Who}
 use Rattle.array_reshaping_steps.specs.history_the_StepKind.{StepKind}
-use Rattle.array_reshaping_steps.proofs.array_reshaping_StepLaws.{unchanged-roomed}
+use Rattle.array_reshaping_steps.proofs.array_type_StepLaws.{unchanged-roomed}
 use Rattle.array_reshaping_steps.proofs.array_type_Alike.{alike, goes-on}
 use Rattle.array_reshaping_io.proofs.writing.write_sure.Goals as goal
 

@@ -1,18 +1,18 @@
 use Rattle.std.proofs.Common.{◌≡◌, ◌<◌, ◌≤◌, ℕ, Option, List, [], ◌∷◌, length, Some, refl, sym, ◌∙◌, ap, subst, arith}
-use Rattle.array_fixed_invariant.specs.raid_types_the_Refusal_TheVariants.{BackupFault}
-use Rattle.array_fixed_invariant.specs.raid_types_the_Span.{Span}
-use Rattle.array_fixed_invariant.specs.bank_Given.{Given}
-use Rattle.array_fixed_invariant.specs.sb_specs_the_Members.{Members}
-use Rattle.array_fixed_invariant.specs.history_the_Event_TheVariants.{Refused}
-use Rattle.array_fixed_invariant.specs.history_Plain.{entries_of}
-use Rattle.array_fixed_invariant.specs.array_members_Numbers.{bears}
-use Rattle.array_fixed_invariant.proofs.array_members_MovedLaws.{grows-none, moved-same}
-use Rattle.array_fixed_invariant.specs.array_call_specs_Kept.{scope_in}
-use Rattle.array_fixed_invariant.proofs.array_call_specs_LossLaws.{ended-behind}
-use Rattle.array_fixed_invariant.proofs.array_call_specs_ReadyLaws.{scope-same}
+use Rattle.array_type.specs.raid_types_the_Refusal_TheVariants.{BackupFault}
+use Rattle.array_type.specs.raid_types_the_Span.{Span}
+use Rattle.array_type.specs.bank_Given.{Given}
+use Rattle.array_type.specs.sb_specs_the_Members.{Members}
+use Rattle.array_type.specs.history_the_Event_TheVariants.{Refused}
+use Rattle.array_type.specs.history_Plain.{entries_of}
+use Rattle.array_type.specs.array_members_Numbers.{bears}
+use Rattle.array_type.proofs.array_members_MovedLaws.{grows-none, moved-same}
+use Rattle.array_type.specs.array_call_specs_Kept.{scope_in}
+use Rattle.array_type.proofs.array_call_specs_LossLaws.{ended-behind}
+use Rattle.array_type.proofs.array_call_specs_ReadyLaws.{scope-same}
 use Rattle.array_type.specs.reshape_request_the_Window.{Window}
 use Rattle.array_type.specs.reshape_request_the_Window_TheVariants.{Unsure}
-use Rattle.array_fixed_invariant.specs.history_invariant_Recorded.{IsCallGoing}
+use Rattle.array_type.specs.history_invariant_Recorded.{IsCallGoing}
 use Rattle.array_type.specs.reshape_progress_the_Course.{Course}
 use Rattle.array_type.specs.reshape_progress_Course.{IsWindowOf, IsCourseOf}
 use Rattle.array_type.specs.array_reshaping_invariant_Moving.{AreReshaping}
@@ -28,7 +28,7 @@ use Rattle.array_type.proofs.array_reshaping_laws_BarredLaws.{never-done}
 use Rattle.array_type.proofs.ReshapingCalls.{one-less}
 use Rattle.array_type.proofs.array_specs_Lengths.{alone-keeps}
 use Rattle.array_type.proofs.Alike.{goes-on}
-use Rattle.array_fixed_invariant.specs.sb_specs_Reading.{is_reshaping}
+use Rattle.array_type.specs.sb_specs_Reading.{is_reshaping}
 use Rattle.array_reshaping_steps.proofs.Backed.{backed-for, of-slot, faulted}
 use Rattle.array_reshaping_steps.proofs.clearing.clear.Goals as goal
 

@@ -1,13 +1,13 @@
 use Rattle.std.proofs.Common.{ℕ, sym, ◌∙◌, subst, arith}
-use Rattle.array_fixed_invariant.specs.raid_types_the_Shape.{Shape}
-use Rattle.array_fixed_invariant.specs.sb_specs_Reading.{final_shape}
-use Rattle.array_fixed_invariant.proofs.sb_specs_ValidFields.{few-roles}
-use Rattle.array_fixed_invariant.specs.stripe_row_Rows.{reading_of, present}
-use Rattle.array_fixed_invariant.specs.stripe_list_Full.{RowStands}
-use Rattle.array_fixed_invariant.proofs.crash_views_Stands.{span-order}
-use Rattle.array_fixed_invariant.specs.array_members_Lacking.{AreOtherRowsKept, IsOfStripe}
-use Rattle.array_fixed_invariant.proofs.array_members_LackingLaws.{lost-since}
-use Rattle.array_fixed_invariant.specs.reshape_progress_Laws.{next_stripe}
+use Rattle.array_type.specs.raid_types_the_Shape.{Shape}
+use Rattle.array_type.specs.sb_specs_Reading.{final_shape}
+use Rattle.array_type.proofs.sb_specs_ValidFields.{few-roles}
+use Rattle.array_type.specs.stripe_row_Rows.{reading_of, present}
+use Rattle.array_type.specs.stripe_list_Full.{RowStands}
+use Rattle.array_type.proofs.crash_views_Stands.{span-order}
+use Rattle.array_type.specs.array_members_Lacking.{AreOtherRowsKept, IsOfStripe}
+use Rattle.array_type.proofs.array_members_LackingLaws.{lost-since}
+use Rattle.array_type.specs.array_fixed_invariant_reshape_progress_Laws.{next_stripe}
 use Rattle.array_type.proofs.ReshapingCalls.{known-moved}
 use Rattle.array_reshaping_steps.proofs.copying.copy_next.Goals as goal
 

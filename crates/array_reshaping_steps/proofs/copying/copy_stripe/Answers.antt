@@ -1,25 +1,25 @@
 use Rattle.std.proofs.Common.{◌+◌, ◌≤◌, ℕ, ◌-◌, ◌*◌, List, [], ◌∷◌, ◌++◌, take, refl, sym, ◌∙◌, ap, subst, arith}
 use Rattle.std.specs.Vec.{with_items}
-use Rattle.array_fixed_invariant.specs.raid_types_Shapes.{stripe_sectors}
+use Rattle.array_type.specs.raid_types_Shapes.{stripe_sectors}
 use Rattle.array_type.proofs.reshape_geometry_ClosedForms.{ceiling_below}
 use Rattle.array_type.proofs.reshape_geometry_Valid.{bounded}
-use Rattle.array_fixed_invariant.specs.sb_specs_Reading.{final_shape, list_length, is_clean, is_reshaping}
-use Rattle.array_fixed_invariant.proofs.crash_views_Stands.{window-inside}
-use Rattle.array_fixed_invariant.specs.array_members_Lacking.{AreTooMany}
-use Rattle.array_fixed_invariant.proofs.array_call_specs_ReplyLaws.{too-many-of, refused-for}
-use Rattle.array_fixed_invariant.specs.history_the_Event_TheVariants.{Refused, Step}
-use Rattle.array_fixed_invariant.specs.history_the_StepKind_TheVariants.{Copied as CopiesStripe}
-use Rattle.array_fixed_invariant.specs.history_Plain.{entries_of}
-use Rattle.array_fixed_invariant.specs.array_members_Numbers.{bears}
-use Rattle.array_fixed_invariant.proofs.array_members_MovedLaws.{grows-none, moved-same}
-use Rattle.array_fixed_invariant.specs.history_append_Losing.{losses_of}
-use Rattle.array_fixed_invariant.specs.array_call_specs_Kept.{scope_in}
-use Rattle.array_fixed_invariant.proofs.array_call_specs_LossLaws.{losses-behind, ended-behind, behind-alone}
-use Rattle.array_fixed_invariant.proofs.array_call_specs_ReadyLaws.{scope-same}
-use Rattle.array_fixed_invariant.proofs.array_members_LackingLaws.{never-both}
+use Rattle.array_type.specs.sb_specs_Reading.{final_shape, list_length, is_clean, is_reshaping}
+use Rattle.array_type.proofs.crash_views_Stands.{window-inside}
+use Rattle.array_type.specs.array_members_Lacking.{AreTooMany}
+use Rattle.array_type.proofs.array_call_specs_ReplyLaws.{too-many-of, refused-for}
+use Rattle.array_type.specs.history_the_Event_TheVariants.{Refused, Step}
+use Rattle.array_type.specs.history_the_StepKind_TheVariants.{Copied as CopiesStripe}
+use Rattle.array_type.specs.history_Plain.{entries_of}
+use Rattle.array_type.specs.array_members_Numbers.{bears}
+use Rattle.array_type.proofs.array_members_MovedLaws.{grows-none, moved-same}
+use Rattle.array_type.specs.history_append_Losing.{losses_of}
+use Rattle.array_type.specs.array_call_specs_Kept.{scope_in}
+use Rattle.array_type.proofs.array_call_specs_LossLaws.{losses-behind, ended-behind, behind-alone}
+use Rattle.array_type.proofs.array_call_specs_ReadyLaws.{scope-same}
+use Rattle.array_type.proofs.array_members_LackingLaws.{never-both}
 use Rattle.array_type.specs.reshape_window_rows_Copies.{tail_of, IsCopied}
-use Rattle.array_fixed_invariant.specs.history_invariant_Recorded.{IsCallGoing}
-use Rattle.array_fixed_invariant.specs.history_invariant_Safe.{world_in}
+use Rattle.array_type.specs.history_invariant_Recorded.{IsCallGoing}
+use Rattle.array_type.specs.history_invariant_Safe.{world_in}
 use Rattle.array_type.specs.reshape_progress_the_Course.{Course}
 use Rattle.array_type.specs.reshape_progress_Course.{IsWindowOf}
 use Rattle.array_type.proofs.array_reshaping_state_ReshapeLaws.{window-reach, list-short, under-way-of}
@@ -32,8 +32,8 @@ use Rattle.array_type.specs.array_specs_Calls.{IsCopyDue}
 use Rattle.array_type.proofs.array_specs_Called.{not_254, called, alone-lossless, many-of, risen-told}
 use Rattle.array_type.proofs.array_reshaping_laws_Copied.{due-is, left-falls, IsStripeTried, copied-more, copied-kept, uncopied-kept}
 use Rattle.array_type.proofs.array_reshaping_laws_Kept.{ready, ready-moved, shapes-same, shapes-moved, behind-keeps, behind-whole, with-buffer, live-of}
-use Rattle.array_fixed_invariant.specs.reshape_request_Left.{phases_of}
-use Rattle.array_fixed_invariant.specs.array_call_specs_Calls.{IsRefusedFor}
+use Rattle.array_type.specs.reshape_request_Left.{phases_of}
+use Rattle.array_type.specs.array_call_specs_Calls.{IsRefusedFor}
 use Rattle.array_type.proofs.ReshapingCalls.{room-49, one-less, many-refused, sound-same, zeroed-moved, entered-sure, never-falls, room-after-1, room-after-49, scratch-of, step-entered, called-over, zero-le}
 use Rattle.array_type.proofs.array_specs_Lengths.{alone-keeps}
 use Rattle.array_type.proofs.Alike.{alike, goes-on}

@@ -1,28 +1,28 @@
 use Rattle.std.proofs.Common.{None, ◌≡◌, ◌<◌, ◌≤◌, inl, inr, ℕ, ◌-◌, ◌*◌, List, [], ◌∷◌, ◌++◌, length, take, Some, refl, sym, ◌∙◌, ap, subst, arith, le_of_eq}
 use Rattle.std.specs.Vec.{with_items}
-use Rattle.array_fixed_invariant.specs.bank_Tape.{disk}
-use Rattle.array_fixed_invariant.specs.raid_types_the_Refusal.{Refusal}
-use Rattle.array_fixed_invariant.specs.raid_types_the_Span.{Span}
+use Rattle.array_type.specs.bank_Tape.{disk}
+use Rattle.array_type.specs.raid_types_the_Refusal.{Refusal}
+use Rattle.array_type.specs.raid_types_the_Span.{Span}
 use Rattle.array_type.specs.reshape_geometry_Geometry.{is_critical}
-use Rattle.array_fixed_invariant.specs.sb_specs_Reading.{is_backward, shape_of, final_shape, next_window, is_clean, is_reshaping}
-use Rattle.array_fixed_invariant.specs.history_the_Event_TheVariants.{Refused, Step}
-use Rattle.array_fixed_invariant.specs.history_the_StepKind_TheVariants.{Entered as EntersWindow}
-use Rattle.array_fixed_invariant.specs.history_Plain.{entries_of}
-use Rattle.array_fixed_invariant.specs.array_members_Lacking.{AreTooMany}
-use Rattle.array_fixed_invariant.specs.array_members_Numbers.{bears}
-use Rattle.array_fixed_invariant.specs.sb_safe_updates_Unused.{IsUnused}
-use Rattle.array_fixed_invariant.proofs.array_members_LackingLaws.{never-both}
-use Rattle.array_fixed_invariant.proofs.array_members_MovedLaws.{grows-none, moved-same}
-use Rattle.array_fixed_invariant.specs.history_append_Losing.{losses_of}
-use Rattle.array_fixed_invariant.specs.array_call_specs_Kept.{scope_in}
-use Rattle.array_fixed_invariant.proofs.array_call_specs_LossLaws.{losses-behind, ended-behind, behind-alone}
-use Rattle.array_fixed_invariant.proofs.array_call_specs_ReadyLaws.{scope-same}
-use Rattle.array_fixed_invariant.specs.history_invariant_Recorded.{IsCallGoing}
-use Rattle.array_fixed_invariant.specs.history_invariant_Safe.{world_in, OpensOnCourse}
+use Rattle.array_type.specs.sb_specs_Reading.{is_backward, shape_of, final_shape, next_window, is_clean, is_reshaping}
+use Rattle.array_type.specs.history_the_Event_TheVariants.{Refused, Step}
+use Rattle.array_type.specs.history_the_StepKind_TheVariants.{Entered as EntersWindow}
+use Rattle.array_type.specs.history_Plain.{entries_of}
+use Rattle.array_type.specs.array_members_Lacking.{AreTooMany}
+use Rattle.array_type.specs.array_members_Numbers.{bears}
+use Rattle.array_type.specs.sb_safe_updates_Unused.{IsUnused}
+use Rattle.array_type.proofs.array_members_LackingLaws.{never-both}
+use Rattle.array_type.proofs.array_members_MovedLaws.{grows-none, moved-same}
+use Rattle.array_type.specs.history_append_Losing.{losses_of}
+use Rattle.array_type.specs.array_call_specs_Kept.{scope_in}
+use Rattle.array_type.proofs.array_call_specs_LossLaws.{losses-behind, ended-behind, behind-alone}
+use Rattle.array_type.proofs.array_call_specs_ReadyLaws.{scope-same}
+use Rattle.array_type.specs.history_invariant_Recorded.{IsCallGoing}
+use Rattle.array_type.specs.history_invariant_Safe.{world_in, OpensOnCourse}
 use Rattle.array_type.specs.reshape_request_the_Window_TheVariants.{Unsure}
 use Rattle.array_type.specs.reshape_progress_the_Course.{Course}
 use Rattle.array_type.specs.reshape_progress_Course.{IsStored}
-use Rattle.array_fixed_invariant.specs.reshape_progress_Laws.{entered}
+use Rattle.array_type.specs.array_fixed_invariant_reshape_progress_Laws.{entered}
 use Rattle.array_type.specs.array_reshaping_invariant_Moving.{IsMoving}
 use Rattle.array_type.proofs.array_reshaping_invariant_Refusals.{quiet-refusal, refused-right}
 use Rattle.array_type.proofs.array_reshaping_invariant_Resting.{resting-moves}
@@ -35,7 +35,7 @@ use Rattle.array_type.proofs.array_reshaping_laws_Kept.{ready, ready-moved, shap
 use Rattle.array_type.proofs.array_reshaping_laws_BarredLaws.{closed-of}
 use Rattle.array_type.proofs.array_reshaping_laws_Entered.{course_in, IsNextTried, when-some, when-none, enter-refused, enter-left, enter-done}
 use Rattle.array_type.specs.history_Stands.{reach_of}
-use Rattle.array_fixed_invariant.specs.reshape_request_Left.{phases_of}
+use Rattle.array_type.specs.reshape_request_Left.{phases_of}
 use Rattle.array_type.proofs.StepLaws.{one-fewer, same-some, room-behind, wide-for, scratch-for, never-some, taken-behind, under-way-moved, zeroed-moved, sound-moved, entered-right}
 use Rattle.array_type.proofs.array_specs_Lengths.{alone-keeps}
 use Rattle.array_type.proofs.Alike.{alike, goes-on}

@@ -1,11 +1,11 @@
 use Rattle.std.proofs.Common.{◌≡◌, inl, ap, subst}
-use Rattle.array_fixed_invariant.specs.raid_types_the_Refusal.{Refusal}
-use Rattle.array_fixed_invariant.specs.raid_types_the_Refusal_TheVariants.{BackupFault}
-use Rattle.array_fixed_invariant.specs.raid_types_the_Span.{Span}
-use Rattle.array_fixed_invariant.specs.sb_specs_Reading.{is_clean}
-use Rattle.array_fixed_invariant.specs.sb_specs_the_Members.{Members}
-use Rattle.array_fixed_invariant.specs.history_the_StepKind_TheVariants.{Entered as EntersWindow}
-use Rattle.array_fixed_invariant.specs.array_members_Lacking.{AreTooMany}
+use Rattle.array_type.specs.raid_types_the_Refusal.{Refusal}
+use Rattle.array_type.specs.raid_types_the_Refusal_TheVariants.{BackupFault}
+use Rattle.array_type.specs.raid_types_the_Span.{Span}
+use Rattle.array_type.specs.sb_specs_Reading.{is_clean}
+use Rattle.array_type.specs.sb_specs_the_Members.{Members}
+use Rattle.array_type.specs.history_the_StepKind_TheVariants.{Entered as EntersWindow}
+use Rattle.array_type.specs.array_members_Lacking.{AreTooMany}
 use Rattle.array_type.specs.reshape_request_the_Window_TheVariants.{Unsure}
 use Rattle.array_type.specs.array_specs_Parts.{left_in}
 use Rattle.array_type.proofs.array_reshaping_laws_BarredLaws.{alone-taken, barred-enter, refused-err, err-ok, err-any}

@@ -1,22 +1,22 @@
 use Rattle.std.proofs.Common.{◌⊎◌, inl, ◌≤◌, ℕ, ◌-◌, ◌*◌, List, [], ◌∷◌, ◌++◌, take, Some, refl, sym, subst, arith, ◌∙◌, ap}
 use Rattle.std.specs.Vec.{with_items}
-use Rattle.array_fixed_invariant.specs.sb_specs_Reading.{final_shape, list_length, is_clean, is_reshaping}
-use Rattle.array_fixed_invariant.specs.stripe_row_Rows.{present}
-use Rattle.array_fixed_invariant.specs.history_the_Event_TheVariants.{Refused, Step}
-use Rattle.array_fixed_invariant.specs.history_the_StepKind_TheVariants.{WindowFinished as FinishesWindow}
-use Rattle.array_fixed_invariant.specs.history_Plain.{entries_of}
-use Rattle.array_fixed_invariant.specs.crash_views_Windows.{moved_past}
-use Rattle.array_fixed_invariant.specs.array_members_Lacking.{AreTooMany, HaveRolesFailed}
-use Rattle.array_fixed_invariant.specs.array_members_Numbers.{bears}
-use Rattle.array_fixed_invariant.proofs.array_members_LackingLaws.{never-both}
-use Rattle.array_fixed_invariant.proofs.array_members_MovedLaws.{grows-none, moved-same}
-use Rattle.array_fixed_invariant.specs.history_append_Losing.{losses_of}
-use Rattle.array_fixed_invariant.specs.array_call_specs_Kept.{scope_in}
-use Rattle.array_fixed_invariant.proofs.array_call_specs_LossLaws.{losses-behind, ended-behind, behind-alone}
-use Rattle.array_fixed_invariant.proofs.array_call_specs_ReadyLaws.{scope-same, list-same}
-use Rattle.array_fixed_invariant.proofs.array_call_specs_ReplyLaws.{too-many-of, refused-for}
-use Rattle.array_fixed_invariant.specs.history_invariant_Recorded.{IsCallGoing}
-use Rattle.array_fixed_invariant.specs.history_invariant_Safe.{world_in}
+use Rattle.array_type.specs.sb_specs_Reading.{final_shape, list_length, is_clean, is_reshaping}
+use Rattle.array_type.specs.stripe_row_Rows.{present}
+use Rattle.array_type.specs.history_the_Event_TheVariants.{Refused, Step}
+use Rattle.array_type.specs.history_the_StepKind_TheVariants.{WindowFinished as FinishesWindow}
+use Rattle.array_type.specs.history_Plain.{entries_of}
+use Rattle.array_type.specs.crash_views_Windows.{moved_past}
+use Rattle.array_type.specs.array_members_Lacking.{AreTooMany, HaveRolesFailed}
+use Rattle.array_type.specs.array_members_Numbers.{bears}
+use Rattle.array_type.proofs.array_members_LackingLaws.{never-both}
+use Rattle.array_type.proofs.array_members_MovedLaws.{grows-none, moved-same}
+use Rattle.array_type.specs.history_append_Losing.{losses_of}
+use Rattle.array_type.specs.array_call_specs_Kept.{scope_in}
+use Rattle.array_type.proofs.array_call_specs_LossLaws.{losses-behind, ended-behind, behind-alone}
+use Rattle.array_type.proofs.array_call_specs_ReadyLaws.{scope-same, list-same}
+use Rattle.array_type.proofs.array_call_specs_ReplyLaws.{too-many-of, refused-for}
+use Rattle.array_type.specs.history_invariant_Recorded.{IsCallGoing}
+use Rattle.array_type.specs.history_invariant_Safe.{world_in}
 use Rattle.array_type.specs.reshape_progress_the_Course.{Course}
 use Rattle.array_type.specs.reshape_request_the_Window.{Window}
 use Rattle.array_type.specs.reshape_progress_Course.{IsWindowOf}
@@ -36,8 +36,8 @@ use Rattle.array_type.proofs.array_specs_Called.{not_254, called, alone-lossless
 use Rattle.array_type.proofs.array_reshaping_laws_Kept.{ready, ready-moved, shapes-same, shapes-moved, behind-keeps, behind-whole, with-buffer}
 use Rattle.array_type.proofs.array_reshaping_laws_RecordLaws.{moved-if, moved-none, shapes-past}
 use Rattle.array_type.proofs.array_reshaping_laws_WriteLaws.{finish-relied, finished-missing, open-is, finish-left, finish-done, finish-stands, finish-refused, recorded-as}
-use Rattle.array_fixed_invariant.specs.reshape_request_Left.{phases_of}
-use Rattle.array_fixed_invariant.specs.array_call_specs_Calls.{IsRefusedFor}
+use Rattle.array_type.specs.reshape_request_Left.{phases_of}
+use Rattle.array_type.specs.array_call_specs_Calls.{IsRefusedFor}
 use Rattle.array_type.proofs.ReshapingCalls.{room-49, one-less, many-refused, sound-same, closed-sure, never-falls, room-after-1, room-after-49, scratch-of, step-entered, called-over, zero-le}
 use Rattle.array_type.specs.stripe_region_resync_Resyncs.{relied_sector}
 use Rattle.array_type.proofs.array_specs_Lengths.{alone-keeps}

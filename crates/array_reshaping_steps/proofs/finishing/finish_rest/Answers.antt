@@ -1,11 +1,11 @@
 use Rattle.std.proofs.Common.{◌≤◌, sym, ◌∙◌, ap, subst, arith}
-use Rattle.array_fixed_invariant.specs.raid_types_the_Shape.{Shape}
+use Rattle.array_type.specs.raid_types_the_Shape.{Shape}
 use Rattle.array_type.specs.reshape_geometry_Geometry.{stripes}
-use Rattle.array_fixed_invariant.specs.sb_specs_Reading.{final_shape}
-use Rattle.array_fixed_invariant.proofs.sb_specs_ValidFields.{few-roles}
-use Rattle.array_fixed_invariant.specs.stripe_row_Rows.{reading_of, present}
-use Rattle.array_fixed_invariant.proofs.crash_views_Stands.{span-order}
-use Rattle.array_fixed_invariant.specs.array_members_Lacking.{AreOtherRowsKept}
+use Rattle.array_type.specs.sb_specs_Reading.{final_shape}
+use Rattle.array_type.proofs.sb_specs_ValidFields.{few-roles}
+use Rattle.array_type.specs.stripe_row_Rows.{reading_of, present}
+use Rattle.array_type.proofs.crash_views_Stands.{span-order}
+use Rattle.array_type.specs.array_members_Lacking.{AreOtherRowsKept}
 use Rattle.array_type.specs.reshape_window_io_Finishing.{IsOfRest, AreStripesCopied}
 use Rattle.array_type.proofs.array_reshaping_laws_WriteLaws.{finished-since}
 use Rattle.array_type.proofs.ReshapingCalls.{known-finished}

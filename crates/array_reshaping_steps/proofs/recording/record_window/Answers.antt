@@ -1,22 +1,22 @@
 use Rattle.std.proofs.Common.{◌≡◌, ◌≤◌, [], ◌∷◌, ◌++◌, Some, refl, sym, ◌∙◌, ap, subst, arith, zero-le}
-use Rattle.array_fixed_invariant.specs.sb_specs_Reading.{list_length, next_window, is_clean, is_reshaping}
-use Rattle.array_fixed_invariant.proofs.sb_specs_ValidFields.{few-roles}
-use Rattle.array_fixed_invariant.specs.history_the_Event_TheVariants.{Refused, Step}
-use Rattle.array_fixed_invariant.specs.history_the_StepKind_TheVariants.{Checkpointed as RecordsWindow}
-use Rattle.array_fixed_invariant.specs.history_Plain.{entries_of}
-use Rattle.array_fixed_invariant.specs.crash_views_Windows.{moved_past}
-use Rattle.array_fixed_invariant.specs.array_members_Lacking.{AreTooMany}
-use Rattle.array_fixed_invariant.proofs.array_members_LackingLaws.{lost-since, never-both}
-use Rattle.array_fixed_invariant.proofs.array_members_MovedLaws.{grows-none, moved-same}
-use Rattle.array_fixed_invariant.specs.history_append_Losing.{losses_of}
-use Rattle.array_fixed_invariant.specs.array_call_specs_Kept.{scope_in}
-use Rattle.array_fixed_invariant.proofs.array_call_specs_LossLaws.{losses-behind, ended-behind, behind-alone}
-use Rattle.array_fixed_invariant.proofs.array_call_specs_ReadyLaws.{scope-same, list-same}
-use Rattle.array_fixed_invariant.proofs.array_call_specs_ReplyLaws.{refused-for, too-many-of}
-use Rattle.array_fixed_invariant.specs.history_invariant_Recorded.{IsCallGoing}
-use Rattle.array_fixed_invariant.specs.history_invariant_Safe.{world_in}
-use Rattle.array_fixed_invariant.specs.array_members_Numbers.{bears}
-use Rattle.array_fixed_invariant.specs.raid_types_the_Span.{Span}
+use Rattle.array_type.specs.sb_specs_Reading.{list_length, next_window, is_clean, is_reshaping}
+use Rattle.array_type.proofs.sb_specs_ValidFields.{few-roles}
+use Rattle.array_type.specs.history_the_Event_TheVariants.{Refused, Step}
+use Rattle.array_type.specs.history_the_StepKind_TheVariants.{Checkpointed as RecordsWindow}
+use Rattle.array_type.specs.history_Plain.{entries_of}
+use Rattle.array_type.specs.crash_views_Windows.{moved_past}
+use Rattle.array_type.specs.array_members_Lacking.{AreTooMany}
+use Rattle.array_type.proofs.array_members_LackingLaws.{lost-since, never-both}
+use Rattle.array_type.proofs.array_members_MovedLaws.{grows-none, moved-same}
+use Rattle.array_type.specs.history_append_Losing.{losses_of}
+use Rattle.array_type.specs.array_call_specs_Kept.{scope_in}
+use Rattle.array_type.proofs.array_call_specs_LossLaws.{losses-behind, ended-behind, behind-alone}
+use Rattle.array_type.proofs.array_call_specs_ReadyLaws.{scope-same, list-same}
+use Rattle.array_type.proofs.array_call_specs_ReplyLaws.{refused-for, too-many-of}
+use Rattle.array_type.specs.history_invariant_Recorded.{IsCallGoing}
+use Rattle.array_type.specs.history_invariant_Safe.{world_in}
+use Rattle.array_type.specs.array_members_Numbers.{bears}
+use Rattle.array_type.specs.raid_types_the_Span.{Span}
 use Rattle.array_type.specs.reshape_progress_the_Course.{Course}
 use Rattle.array_type.proofs.array_reshaping_invariant_Refusals.{quiet-refusal, refused-right}
 use Rattle.array_type.proofs.array_reshaping_invariant_Resting.{resting-moves}
@@ -27,7 +27,7 @@ use Rattle.array_type.specs.array_reshaping_laws_Ready.{bytes_in}
 use Rattle.array_type.proofs.array_specs_Called.{not_254, called, alone-lossless, many-of}
 use Rattle.array_type.proofs.array_reshaping_laws_Kept.{ready, ready-moved, shapes-same, shapes-moved, behind-keeps, behind-whole, live-of}
 use Rattle.array_type.proofs.array_reshaping_laws_RecordLaws.{window-next, all_copied, record-left, moved-if, moved-none, safe-none-of, shapes-past, since-past, record-refused, record-done}
-use Rattle.array_fixed_invariant.specs.reshape_request_Left.{phases_of}
+use Rattle.array_type.specs.reshape_request_Left.{phases_of}
 use Rattle.array_type.proofs.StepLaws.{one-fewer, room-behind, taken-behind, under-way-moved, sound-moved, roles-past}
 use Rattle.array_type.proofs.ReshapingCalls.{closed-sure}
 use Rattle.array_type.proofs.array_specs_Lengths.{alone-keeps}

@@ -1,21 +1,21 @@
 use Rattle.std.proofs.Common.{◌≤◌, [], ◌∷◌, ◌++◌, false, refl, sym, ◌∙◌, subst, arith, ap, None}
-use Rattle.array_fixed_invariant.specs.sb_specs_Reading.{list_length, is_reshaping}
-use Rattle.array_fixed_invariant.proofs.sb_specs_ValidFields.{few-roles}
-use Rattle.array_fixed_invariant.specs.history_the_Event_TheVariants.{Refused, Step}
-use Rattle.array_fixed_invariant.specs.history_the_StepKind_TheVariants.{ResyncEnded as EndsResync}
-use Rattle.array_fixed_invariant.specs.history_Plain.{entries_of}
-use Rattle.array_fixed_invariant.specs.array_members_Lacking.{AreTooMany, AreHoldersFlushed}
-use Rattle.array_fixed_invariant.specs.array_members_Numbers.{bears}
-use Rattle.array_fixed_invariant.proofs.array_members_LackingLaws.{lost-since, never-both}
-use Rattle.array_fixed_invariant.proofs.array_members_MovedLaws.{grows-none, moved-same}
-use Rattle.array_fixed_invariant.specs.history_append_Losing.{losses_of}
-use Rattle.array_fixed_invariant.specs.array_call_specs_Kept.{scope_in}
-use Rattle.array_fixed_invariant.proofs.array_call_specs_LossLaws.{losses-behind, ended-behind, behind-alone}
-use Rattle.array_fixed_invariant.proofs.array_call_specs_ReadyLaws.{scope-same}
-use Rattle.array_fixed_invariant.proofs.array_call_specs_ReplyLaws.{refused-for, too-many-of}
-use Rattle.array_fixed_invariant.specs.history_invariant_Recorded.{IsCallGoing}
-use Rattle.array_fixed_invariant.specs.history_invariant_Safe.{world_in}
-use Rattle.array_reshaping_laws.proofs.array_reshaping_invariant_Flushing.{AreFlushed, AreSettled}
+use Rattle.array_type.specs.sb_specs_Reading.{list_length, is_reshaping}
+use Rattle.array_type.proofs.sb_specs_ValidFields.{few-roles}
+use Rattle.array_type.specs.history_the_Event_TheVariants.{Refused, Step}
+use Rattle.array_type.specs.history_the_StepKind_TheVariants.{ResyncEnded as EndsResync}
+use Rattle.array_type.specs.history_Plain.{entries_of}
+use Rattle.array_type.specs.array_members_Lacking.{AreTooMany, AreHoldersFlushed}
+use Rattle.array_type.specs.array_members_Numbers.{bears}
+use Rattle.array_type.proofs.array_members_LackingLaws.{lost-since, never-both}
+use Rattle.array_type.proofs.array_members_MovedLaws.{grows-none, moved-same}
+use Rattle.array_type.specs.history_append_Losing.{losses_of}
+use Rattle.array_type.specs.array_call_specs_Kept.{scope_in}
+use Rattle.array_type.proofs.array_call_specs_LossLaws.{losses-behind, ended-behind, behind-alone}
+use Rattle.array_type.proofs.array_call_specs_ReadyLaws.{scope-same}
+use Rattle.array_type.proofs.array_call_specs_ReplyLaws.{refused-for, too-many-of}
+use Rattle.array_type.specs.history_invariant_Recorded.{IsCallGoing}
+use Rattle.array_type.specs.history_invariant_Safe.{world_in}
+use Rattle.array_type.proofs.array_reshaping_invariant_Flushing.{AreFlushed, AreSettled}
 use Rattle.array_type.proofs.array_reshaping_invariant_Refusals.{quiet-refusal, refused-right}
 use Rattle.array_type.proofs.array_reshaping_invariant_Resting.{resting-moves}
 use Rattle.array_type.proofs.array_reshaping_invariant_Steps.{missing-since}
@@ -25,12 +25,12 @@ use Rattle.array_type.specs.array_reshaping_laws_Resyncing.{IsResyncEndDue}
 use Rattle.array_type.specs.array_reshaping_laws_Ready.{bytes_in}
 use Rattle.array_type.proofs.array_reshaping_laws_Kept.{ready, ready-with, shapes-same, shapes-moved, behind-keeps, behind-whole}
 use Rattle.array_type.proofs.array_reshaping_laws_ResyncLaws.{aside-right, end-refused, end-done, end-left, rows-good}
-use Rattle.array_fixed_invariant.specs.reshape_request_Left.{phases_of}
-use Rattle.array_fixed_invariant.specs.array_call_specs_Calls.{IsRefusedFor}
+use Rattle.array_type.specs.reshape_request_Left.{phases_of}
+use Rattle.array_type.specs.array_call_specs_Calls.{IsRefusedFor}
 use Rattle.array_type.proofs.array_reshaping_state_ReshapeLaws.{under-way-of}
 use Rattle.array_type.proofs.array_specs_Lengths.{alone-keeps}
 use Rattle.array_type.proofs.ReshapingCalls.{room-49, one-less, many-refused, sound-same, zeroed-moved, known-moved, never-falls, room-after-1, room-after-49, step-entered, zero-le}
-use Rattle.array_fixed_invariant.specs.stripe_row_Rows.{reading_of}
+use Rattle.array_type.specs.stripe_row_Rows.{reading_of}
 use Rattle.array_type.proofs.Alike.{alike, goes-on}
 use Rattle.array_reshaping_steps.proofs.resyncing.end_resync.Goals as goal
 

@@ -1,29 +1,29 @@
 use Rattle.std.proofs.Common.{◌≡◌, ◌≤◌, [], ◌∷◌, ◌++◌, None, Some, refl, sym, ◌∙◌, subst, arith, ap}
 use Rattle.std.specs.Prelude.{⊤}
-use Rattle.array_fixed_invariant.proofs.sb_specs_ValidFields.{few-roles}
-use Rattle.array_fixed_invariant.specs.history_the_Event_TheVariants.{Refused, Step}
-use Rattle.array_fixed_invariant.specs.history_the_StepKind_TheVariants.{ResyncStripe as ResyncsStripe}
-use Rattle.array_fixed_invariant.specs.history_Plain.{entries_of}
-use Rattle.array_fixed_invariant.specs.crash_views_Regions.{DoWithout}
-use Rattle.array_fixed_invariant.proofs.array_members_LackingLaws.{lost-since}
-use Rattle.array_fixed_invariant.proofs.array_members_MovedLaws.{grows-none, moved-same}
-use Rattle.array_fixed_invariant.specs.array_members_Numbers.{bears}
-use Rattle.array_fixed_invariant.specs.history_append_Losing.{losses_of}
-use Rattle.array_fixed_invariant.specs.array_call_specs_Kept.{scope_in}
-use Rattle.array_fixed_invariant.proofs.array_call_specs_LossLaws.{losses-behind, ended-behind, behind-alone}
-use Rattle.array_fixed_invariant.proofs.array_call_specs_ReadyLaws.{scope-same}
-use Rattle.array_fixed_invariant.specs.history_invariant_Recorded.{IsCallGoing}
+use Rattle.array_type.proofs.sb_specs_ValidFields.{few-roles}
+use Rattle.array_type.specs.history_the_Event_TheVariants.{Refused, Step}
+use Rattle.array_type.specs.history_the_StepKind_TheVariants.{ResyncStripe as ResyncsStripe}
+use Rattle.array_type.specs.history_Plain.{entries_of}
+use Rattle.array_type.specs.crash_views_Regions.{DoWithout}
+use Rattle.array_type.proofs.array_members_LackingLaws.{lost-since}
+use Rattle.array_type.proofs.array_members_MovedLaws.{grows-none, moved-same}
+use Rattle.array_type.specs.array_members_Numbers.{bears}
+use Rattle.array_type.specs.history_append_Losing.{losses_of}
+use Rattle.array_type.specs.array_call_specs_Kept.{scope_in}
+use Rattle.array_type.proofs.array_call_specs_LossLaws.{losses-behind, ended-behind, behind-alone}
+use Rattle.array_type.proofs.array_call_specs_ReadyLaws.{scope-same}
+use Rattle.array_type.specs.history_invariant_Recorded.{IsCallGoing}
 use Rattle.array_type.specs.stripe_region_resync_Resyncs.{resync_shape, refusal_of_resync, IsNotSynced}
 use Rattle.array_type.proofs.array_reshaping_invariant_Steps.{missing-since}
-use Rattle.array_reshaping_laws.proofs.array_reshaping_resync_laws_Resync.{untried-moves}
+use Rattle.array_type.proofs.array_reshaping_resync_laws_Resync.{untried-moves}
 use Rattle.array_type.specs.array_specs_Parts.{left_in}
 use Rattle.array_type.specs.array_reshaping_laws_Resyncing.{IsResyncDue}
 use Rattle.array_type.specs.array_reshaping_laws_Ready.{bytes_in}
 use Rattle.array_type.proofs.array_specs_Called.{not_254, called, alone-lossless}
 use Rattle.array_type.proofs.array_reshaping_laws_Kept.{ready, ready-with, shapes-same, shapes-moved, behind-keeps, behind-whole}
 use Rattle.array_type.proofs.array_reshaping_laws_ResyncLaws.{next-of, aside-right, with-buffers, mends-short, not-mended-for, mendable-for, first-for, one-more, refused-why, done-why, mend-step, mend-refused, mend-done, mend-left, was-dirty}
-use Rattle.array_fixed_invariant.specs.sb_specs_Reading.{is_clean, is_reshaping}
-use Rattle.array_fixed_invariant.specs.reshape_request_Left.{phases_of}
+use Rattle.array_type.specs.sb_specs_Reading.{is_clean, is_reshaping}
+use Rattle.array_type.specs.reshape_request_Left.{phases_of}
 use Rattle.array_type.proofs.array_specs_Lengths.{alone-keeps}
 use Rattle.array_type.proofs.StepLaws.{one-fewer, room-behind, taken-behind, under-way-moved, zeroed-moved, sound-moved, roles-moved}
 use Rattle.array_type.proofs.Alike.{alike, goes-on}

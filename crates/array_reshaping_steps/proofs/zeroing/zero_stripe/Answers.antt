@@ -1,26 +1,26 @@
 use Rattle.std.proofs.Common.{None, ◌≡◌, ◌+◌, ◌≤◌, ◌<◌, List, [], ◌∷◌, ◌++◌, refl, sym, ◌∙◌, ap, subst, arith, ℕ, length, zero-le}
 use Rattle.std.specs.Vec.{with_items}
 use Rattle.std.proofs.Math.Nat.{div-le_self}
-use Rattle.array_fixed_invariant.specs.raid_types_the_Shape.{Shape}
-use Rattle.array_fixed_invariant.specs.sb_specs_Reading.{final_shape, list_length, is_clean, is_reshaping}
-use Rattle.array_fixed_invariant.proofs.sb_specs_ValidFields.{few-roles}
-use Rattle.array_fixed_invariant.specs.history_the_Event_TheVariants.{Refused, Step}
-use Rattle.array_fixed_invariant.specs.history_the_StepKind_TheVariants.{Zeroed as ZeroesStripe}
-use Rattle.array_fixed_invariant.specs.history_Plain.{entries_of}
-use Rattle.array_fixed_invariant.specs.array_members_Lacking.{AreTooMany}
-use Rattle.array_fixed_invariant.proofs.array_members_Fit.{fit-short}
-use Rattle.array_fixed_invariant.proofs.array_members_LackingLaws.{lost-since, never-both}
-use Rattle.array_fixed_invariant.proofs.array_members_MovedLaws.{grows-none, moved-same}
-use Rattle.array_fixed_invariant.specs.history_append_Losing.{losses_of}
-use Rattle.array_fixed_invariant.specs.array_call_specs_Kept.{scope_in}
-use Rattle.array_fixed_invariant.proofs.array_call_specs_LossLaws.{losses-behind, ended-behind, behind-alone}
-use Rattle.array_fixed_invariant.proofs.array_call_specs_ReadyLaws.{scope-same}
-use Rattle.array_fixed_invariant.proofs.array_call_specs_ReplyLaws.{refused-for, too-many-of}
-use Rattle.array_fixed_invariant.specs.reshape_request_Left.{zeroed_by, phases_of, IsWindowRight}
+use Rattle.array_type.specs.raid_types_the_Shape.{Shape}
+use Rattle.array_type.specs.sb_specs_Reading.{final_shape, list_length, is_clean, is_reshaping}
+use Rattle.array_type.proofs.sb_specs_ValidFields.{few-roles}
+use Rattle.array_type.specs.history_the_Event_TheVariants.{Refused, Step}
+use Rattle.array_type.specs.history_the_StepKind_TheVariants.{Zeroed as ZeroesStripe}
+use Rattle.array_type.specs.history_Plain.{entries_of}
+use Rattle.array_type.specs.array_members_Lacking.{AreTooMany}
+use Rattle.array_type.proofs.array_members_Fit.{fit-short}
+use Rattle.array_type.proofs.array_members_LackingLaws.{lost-since, never-both}
+use Rattle.array_type.proofs.array_members_MovedLaws.{grows-none, moved-same}
+use Rattle.array_type.specs.history_append_Losing.{losses_of}
+use Rattle.array_type.specs.array_call_specs_Kept.{scope_in}
+use Rattle.array_type.proofs.array_call_specs_LossLaws.{losses-behind, ended-behind, behind-alone}
+use Rattle.array_type.proofs.array_call_specs_ReadyLaws.{scope-same}
+use Rattle.array_type.proofs.array_call_specs_ReplyLaws.{refused-for, too-many-of}
+use Rattle.array_type.specs.reshape_request_Left.{zeroed_by, phases_of, IsWindowRight}
 use Rattle.array_type.specs.reshape_progress_the_Course.{Course}
-use Rattle.array_fixed_invariant.specs.history_invariant_Recorded.{IsCallGoing}
-use Rattle.array_fixed_invariant.specs.history_invariant_Safe.{world_in}
-use Rattle.array_fixed_invariant.specs.array_members_Numbers.{bears}
+use Rattle.array_type.specs.history_invariant_Recorded.{IsCallGoing}
+use Rattle.array_type.specs.history_invariant_Safe.{world_in}
+use Rattle.array_type.specs.array_members_Numbers.{bears}
 use Rattle.array_type.proofs.array_reshaping_invariant_Refusals.{quiet-refusal, refused-right}
 use Rattle.array_type.proofs.array_reshaping_invariant_Resting.{resting-moves}
 use Rattle.array_type.proofs.array_reshaping_invariant_Steps.{missing-since}

@@ -1,7 +1,7 @@
 use Rattle.std.proofs.Common.{sym, ◌∙◌, arith}
-use Rattle.array_fixed_io.proofs.sb_specs_Searches.{least_below-first}
-use Rattle.array_fixed_io.specs.sb_specs_Reading.{role_count}
-use Rattle.array_fixed_io.specs.stripe_row_Rows.{reading_of, is_missing}
+use Rattle.array_fixed_sync.proofs.sb_specs_Searches.{least_below-first}
+use Rattle.array_fixed_sync.specs.sb_specs_Reading.{role_count}
+use Rattle.array_fixed_sync.specs.stripe_row_Rows.{reading_of, is_missing}
 use Rattle.array_takeover.proofs.choosing.lowest_missing.Goals as goal
 
 pub returns-then-is_missing : goal.returns-then-is_missing

@@ -1,5 +1,5 @@
 use Rattle.std.proofs.Common.{◌≡◌, ◌<◌, ℕ, false}
-use Rattle.array_fixed_io.specs.stripe_row_Rows.{reading_of, is_missing}
+use Rattle.array_fixed_sync.specs.stripe_row_Rows.{reading_of, is_missing}
 use Rattle.array_takeover.proofs.choosing.lowest_missing.Given as goal
 
 -- each role before this one is whole

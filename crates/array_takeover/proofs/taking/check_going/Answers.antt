@@ -1,5 +1,5 @@
 use Rattle.std.proofs.Common.{◌≤◌, length, subst, ℕ}
-use Rattle.array_fixed_io.proofs.history_invariant_Records.{going-few}
+use Rattle.array_fixed_sync.proofs.history_invariant_Records.{going-few}
 use Rattle.array_takeover.proofs.taking.check_going.Goals as goal
 
 pub returns : goal.returns

@@ -1,13 +1,13 @@
 use Rattle.std.proofs.Common.{[], ◌∷◌, refl, arith, ap, ◌∙◌}
-use Rattle.array_fixed_io.specs.history_the_Event_TheVariants.{Refused}
-use Rattle.array_fixed_io.specs.history_Plain.{entries_of}
-use Rattle.array_fixed_io.specs.array_call_specs_Kept.{scope_in}
-use Rattle.array_fixed_io.proofs.array_call_specs_ReadyLaws.{scope-same}
-use Rattle.array_fixed_io.proofs.array_specs_Lengths.{alone-keeps}
-use Rattle.array_fixed_io.proofs.array_fixed_laws_Kept.{ready, rows-same}
-use Rattle.array_fixed_io.proofs.array_fixed_laws_Plain.{turned-plain, turns-first}
+use Rattle.array_fixed_sync.specs.history_the_Event_TheVariants.{Refused}
+use Rattle.array_fixed_sync.specs.history_Plain.{entries_of}
+use Rattle.array_fixed_sync.specs.array_call_specs_Kept.{scope_in}
+use Rattle.array_fixed_sync.proofs.array_call_specs_ReadyLaws.{scope-same}
+use Rattle.array_fixed_sync.proofs.array_specs_Lengths.{alone-keeps}
+use Rattle.array_fixed_sync.proofs.array_fixed_laws_Kept.{ready, rows-same}
+use Rattle.array_fixed_sync.proofs.array_fixed_laws_Plain.{turned-plain, turns-first}
 use Rattle.array_takeover.proofs.Untaken.{untaken-stands}
-use Rattle.array_fixed_io.specs.sb_specs_Reading.{is_reshaping}
+use Rattle.array_fixed_sync.specs.sb_specs_Reading.{is_reshaping}
 use Rattle.array_takeover.proofs.taking.give_back.Goals as goal
 
 pub of_fixed-requires : goal.of_fixed-requires

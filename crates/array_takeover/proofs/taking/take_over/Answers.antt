@@ -1,30 +1,30 @@
 use Rattle.std.proofs.Common.{◌≡◌, ℕ, ◌≤◌, ◌-◌, Option, List, ◌∷◌, ◌++◌, length, vec_capacity, refl, sym, ◌∙◌, ap, subst, arith}
 use Rattle.std.specs.Prelude.{IfSome}
 use Rattle.reshape_sb_takeover.proofs.raid_layout_Limits.{limited}
-use Rattle.array_fixed_io.specs.reshape_plan_Plans.{AreSound}
-use Rattle.array_fixed_io.specs.sb_specs_Reading.{shape_of, is_reshaping}
-use Rattle.array_fixed_io.proofs.sb_specs_ValidFields.{few-roles}
-use Rattle.array_fixed_io.specs.history_the_Entry.{Entry}
-use Rattle.array_fixed_io.specs.history_the_Event_TheVariants.{Step}
-use Rattle.array_fixed_io.specs.history_the_StepKind_TheVariants.{TakenOver}
-use Rattle.array_fixed_io.specs.history_Plain.{entries_of}
-use Rattle.array_fixed_io.specs.history_Transfers.{last_end_from}
-use Rattle.array_fixed_io.specs.array_members_the_Work.{Work}
-use Rattle.array_fixed_io.specs.array_members_Status.{left_of, stripes_of}
-use Rattle.array_fixed_io.proofs.array_members_Fit.{fit-short}
+use Rattle.array_fixed_sync.specs.reshape_plan_Plans.{AreSound}
+use Rattle.array_fixed_sync.specs.sb_specs_Reading.{shape_of, is_reshaping}
+use Rattle.array_fixed_sync.proofs.sb_specs_ValidFields.{few-roles}
+use Rattle.array_fixed_sync.specs.history_the_Entry.{Entry}
+use Rattle.array_fixed_sync.specs.history_the_Event_TheVariants.{Step}
+use Rattle.array_fixed_sync.specs.history_the_StepKind_TheVariants.{TakenOver}
+use Rattle.array_fixed_sync.specs.history_Plain.{entries_of}
+use Rattle.array_fixed_sync.specs.history_Transfers.{last_end_from}
+use Rattle.array_fixed_sync.specs.array_members_the_Work.{Work}
+use Rattle.array_fixed_sync.specs.array_members_Status.{left_of, stripes_of}
+use Rattle.array_fixed_sync.proofs.array_members_Fit.{fit-short}
 use Rattle.array_takeover_laws.specs.history_append_Losing.{losses_of}
-use Rattle.array_fixed_io.specs.array_call_specs_Calls.{AreStepsFewer}
-use Rattle.array_fixed_io.specs.array_call_specs_Kept.{scope_in}
-use Rattle.array_fixed_io.proofs.array_call_specs_ReadyLaws.{scope-same}
-use Rattle.array_fixed_io.specs.reshape_request_Left.{phases_of}
-use Rattle.array_fixed_io.specs.history_invariant_Recorded.{IsCallGoing}
-use Rattle.array_fixed_io.specs.history_invariant_Safe.{world_in}
-use Rattle.array_fixed_io.specs.array_specs_Calls.{moving_world}
-use Rattle.array_fixed_io.specs.array_specs_Parts.{still_left}
-use Rattle.array_fixed_io.specs.array_specs_Plans.{ArePlansKept}
-use Rattle.array_fixed_io.specs.array_fixed_laws_Ready.{IsReady}
-use Rattle.array_fixed_io.proofs.array_fixed_laws_Closing.{LeadTo}
-use Rattle.array_fixed_io.proofs.history_laws_OneShapeGrowing.{call-ends}
+use Rattle.array_fixed_sync.specs.array_call_specs_Calls.{AreStepsFewer}
+use Rattle.array_fixed_sync.specs.array_call_specs_Kept.{scope_in}
+use Rattle.array_fixed_sync.proofs.array_call_specs_ReadyLaws.{scope-same}
+use Rattle.array_fixed_sync.specs.reshape_request_Left.{phases_of}
+use Rattle.array_fixed_sync.specs.history_invariant_Recorded.{IsCallGoing}
+use Rattle.array_fixed_sync.specs.history_invariant_Safe.{world_in}
+use Rattle.array_fixed_sync.specs.array_specs_Calls.{moving_world}
+use Rattle.array_fixed_sync.specs.array_specs_Parts.{still_left}
+use Rattle.array_fixed_sync.specs.array_specs_Plans.{ArePlansKept}
+use Rattle.array_fixed_sync.specs.array_fixed_laws_Ready.{IsReady}
+use Rattle.array_fixed_sync.proofs.array_fixed_laws_Closing.{LeadTo}
+use Rattle.array_fixed_sync.proofs.history_laws_OneShapeGrowing.{call-ends}
 use Rattle.array_takeover.specs.TakenOver.{IsTakeoverNext, work_then}
 use Rattle.array_takeover.proofs.Chosen.{sound-next, can-take, told-ahead}
 use Rattle.array_takeover.proofs.Parted.{untaken-as, untouched-as, both-given, taken-as, room-for}

@@ -1,8 +1,8 @@
 use Rattle.std.proofs.Common.{ap, arith}
 use Rattle.reshape_sb_takeover.proofs.raid_layout_Limits.{limited}
 use Rattle.array_takeover_laws.specs.raid_types_the_Shape.{Shape}
-use Rattle.array_fixed_io.specs.sb_specs_Reading.{shape_of}
-use Rattle.array_fixed_io.proofs.array_fixed_laws_Left.{left-few}
+use Rattle.array_fixed_sync.specs.sb_specs_Reading.{shape_of}
+use Rattle.array_fixed_sync.proofs.array_fixed_laws_Left.{left-few}
 use Rattle.array_takeover.proofs.taking.told_of.Goals as goal
 
 pub overflow_cast-count : goal.overflow_cast-count

@@ -31,9 +31,9 @@ use Rattle.array_reshaping_steps.specs.history_invariant_Recorded.{IsCallGoing}
 use Rattle.array_reshaping_steps.specs.reshape_progress_Laws.{closed}
 use Rattle.array_reshaping_steps.specs.array_specs_Parts.{left_in}
 use Rattle.array_reshaping_steps.proofs.array_specs_Lengths.{alone-keeps}
-use Rattle.array_fixed_sync.specs.array_fixed_laws_Ready.{IsReady}
-use Rattle.array_fixed_sync.proofs.array_fixed_laws_Kept.{ready, rows-same}
-use Rattle.array_fixed_sync.proofs.array_fixed_laws_Plain.{turned-plain, turns-first}
+use Rattle.array_reshaping_steps.specs.array_fixed_laws_Ready.{IsReady}
+use Rattle.array_reshaping_steps.proofs.array_fixed_laws_Kept.{ready, rows-same}
+use Rattle.array_reshaping_steps.proofs.array_fixed_laws_Plain.{turned-plain, turns-first}
 use Rattle.array_reshaping_steps.proofs.array_reshaping_laws_Kept.{left_by}
 use Rattle.array_reshaping_steps.proofs.history_laws_OneShapeGrowing.{call-ends}
 use Rattle.array_transition.specs.Begun.{begun_length, HasKeptLength, IsBackupAt}

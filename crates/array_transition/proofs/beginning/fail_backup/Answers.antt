@@ -2,7 +2,7 @@ use Rattle.std.proofs.Common.{List, ap}
 use Rattle.std.specs.Prelude.{IsErr}
 use Rattle.array_reshaping_steps.specs.bank_the_Operation.{Operation}
 use Rattle.array_reshaping_steps.specs.stripe_row_Rows.{present}
-use Rattle.array_fixed_sync.proofs.array_fixed_laws_AddLaws.{ready-same}
+use Rattle.array_reshaping_steps.proofs.array_fixed_laws_AddLaws.{ready-same}
 use Rattle.array_transition.proofs.GivenBack.{err-tape}
 use Rattle.array_transition.proofs.beginning.fail_backup.Goals as goal
 

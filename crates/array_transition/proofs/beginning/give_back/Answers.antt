@@ -4,8 +4,8 @@ use Rattle.array_reshaping_steps.specs.history_Plain.{entries_of}
 use Rattle.array_reshaping_steps.specs.array_call_specs_Kept.{scope_in}
 use Rattle.array_reshaping_steps.proofs.array_call_specs_ReadyLaws.{scope-same}
 use Rattle.array_reshaping_steps.proofs.array_specs_Lengths.{alone-keeps}
-use Rattle.array_fixed_sync.proofs.array_fixed_laws_Kept.{ready, rows-same}
-use Rattle.array_fixed_sync.proofs.array_fixed_laws_Plain.{turned-plain, turns-first}
+use Rattle.array_reshaping_steps.proofs.array_fixed_laws_Kept.{ready, rows-same}
+use Rattle.array_reshaping_steps.proofs.array_fixed_laws_Plain.{turned-plain, turns-first}
 use Rattle.array_transition.proofs.GivenBack.{plain-stands}
 use Rattle.array_reshaping_steps.specs.sb_specs_Reading.{is_reshaping}
 use Rattle.array_transition.proofs.beginning.give_back.Goals as goal

@@ -1,5 +1,5 @@
 use Rattle.std.proofs.Common.{arith}
-use Rattle.array_fixed_sync.proofs.array_fixed_laws_Left.{left-few}
+use Rattle.array_reshaping_steps.proofs.array_fixed_laws_Left.{left-few}
 use Rattle.array_transition.proofs.ending.ended_left.Goals as goal
 
 pub overflow_add-result : goal.overflow_add-result

@@ -3,7 +3,7 @@ use Rattle.array_takeover.specs.sb_specs_Reading.{is_reshaping}
 use Rattle.array_grow.specs.array_members_Placed.{AreWhole}
 use Rattle.array_grow.specs.history_invariant_Recorded.{IsCallGoing}
 use Rattle.array_grow.specs.array_fixed_laws_Steps.{MayAnswer}
-use Rattle.array_type.proofs.Rest.{on-both}
+use Rattle.array_grow.proofs.array_type_Rest.{on-both}
 use Rattle.array.specs.Calls.{IsReplyNow}
 use Rattle.array.proofs.Answered.{reply-still, reply-moving, reply-none, rest-left, moving-left}
 use Rattle.array_grow.proofs.array_fixed_laws_PlansKept.{add-entered}

@@ -4,7 +4,7 @@ use Rattle.array_takeover.specs.history_the_StepKind_TheVariants.{RebuildEnded a
 use Rattle.array_grow.specs.array_members_Status.{left_of}
 use Rattle.array_grow.specs.array_specs_Calls.{moving_world}
 use Rattle.array_grow.specs.array_fixed_laws_Steps.{IsCallUnbroken}
-use Rattle.array_grow.specs.array_fixed_sync_Stepping.{next_kind}
+use Rattle.array_takeover.specs.array_fixed_sync_Stepping.{next_kind}
 use Rattle.array_grow.specs.history_invariant_Recorded.{IsCallGoing}
 use Rattle.array.proofs.Closed.{closed-stepped}
 use Rattle.array.proofs.Entered.{add-stepped}

@@ -2,8 +2,8 @@ use Rattle.std.proofs.Common.{◌≡◌, ◌<◌, [], ◌∷◌, refl, ◌∙◌
 use Rattle.array_takeover.specs.sb_specs_Reading.{is_reshaping}
 use Rattle.array_grow.specs.array_members_Status.{left_of}
 use Rattle.array_takeover.specs.reshape_request_Left.{phases_of}
-use Rattle.array_type.proofs.array_members_Fit.{valid, short, roles-still}
-use Rattle.array_type.proofs.Alike.{alike}
+use Rattle.array_grow.proofs.array_members_Fit.{valid, short, roles-still}
+use Rattle.array_grow.proofs.array_type_Alike.{alike}
 use Rattle.array.proofs.Answered.{next-none, next-begin, next-up, next-down, some-own, some-ahead}
 use Rattle.array.proofs.state.choosing.next_at_rest.Goals as goal
 

@@ -2,7 +2,7 @@ use Rattle.std.proofs.Common.{sym, ◌∙◌, ap}
 use Rattle.array_takeover.specs.sb_specs_Reading.{is_reshaping}
 use Rattle.array_grow.specs.array_reshaping_state_Due.{due_of}
 use Rattle.array_grow.proofs.array_reshaping_laws_ResyncLaws.{left-some}
-use Rattle.array_type.proofs.Alike.{alike}
+use Rattle.array_grow.proofs.array_type_Alike.{alike}
 use Rattle.array.proofs.Answered.{moving-some}
 use Rattle.array.proofs.state.choosing.next_in_reshape.Goals as goal
 

@@ -1,6 +1,6 @@
 use Rattle.std.proofs.Common.{Option, ℕ, Some, refl, subst}
 use Rattle.std.specs.Prelude.{IsSome, vec_capacity, length}
-use Rattle.array_fixed_laws.specs.array_call_specs_Kept.{scope_in}
+use Rattle.array_reshaping_laws.specs.array_call_specs_Kept.{scope_in}
 use Rattle.array_reshaping_laws.specs.Ready.{IsReady}
 use Rattle.array_type.proofs.Alike.{goes-on}
 use Rattle.array_type.proofs.state.Array.of_reshaping.Goals as goal

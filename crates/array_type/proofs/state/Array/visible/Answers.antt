@@ -1,6 +1,6 @@
 use Rattle.std.proofs.Common.{ℕ, sym, ◌∙◌, ap, arith}
 use Rattle.sb_election.specs.sb_specs_Reading.{list_length}
-use Rattle.array_fixed_laws.specs.array_reshaping_state_Left.{visible_by}
+use Rattle.array_reshaping_laws.specs.array_reshaping_state_Left.{visible_by}
 use Rattle.array_type.proofs.Alike.{alike}
 use Rattle.array_type.proofs.state.Array.visible.Goals as goal
 

@@ -1,5 +1,5 @@
 use Rattle.std.proofs.Common.{◌≤◌, length, subst, ℕ}
-use Rattle.array_fixed_laws.proofs.history_invariant_Records.{going-few}
+use Rattle.array_reshaping_laws.proofs.history_invariant_Records.{going-few}
 use Rattle.array_type.proofs.state.going.check_going.Goals as goal
 
 pub returns : goal.returns

@@ -1,5 +1,5 @@
 use Rattle.std.proofs.Common.{arith}
-use Rattle.array_fixed_laws.proofs.Left.{left-few}
+use Rattle.array_reshaping_laws.proofs.array_fixed_laws_Left.{left-few}
 use Rattle.array_type.proofs.state.left.left_at_rest.Goals as goal
 
 pub overflow_add-result : goal.overflow_add-result
