@@ -1,10 +1,12 @@
-use Rattle.std.proofs.Common.{ℕ, inl, inr, ◌≤◌, ◌^◌, List, [], ◌∷◌, length, drop, refl, sym, ap, subst, arith}
+use Rattle.std.proofs.Common.{ℕ, inl, inr, ◌≤◌, ◌^◌, List, [], ◌∷◌, length, drop, refl, sym, ap, subst, arith, append-nil}
+use Rattle.std.proofs.Math.Seq.{drop-append_seam}
 use Rattle.std.specs.List.{All}
 use Rattle.std.proofs.lemmas.List.Elements.{All-get_or}
 use Rattle.script_status.specs.history_the_Entry.{Entry}
 use Rattle.script_status.specs.history_the_Request.{Request}
 use Rattle.lane_shared.specs.history_caller_laws_Callers.{RepliesFrom}
 use Rattle.run_line_answers.specs.array_Calls.{running_left}
+use Rattle.run_line_answers.specs.run_specs_Blocks.{IsBlockEntered}
 use Rattle.run_line_answers.specs.array_requests_Replies.{IsAskable}
 use Rattle.run_line_answers.proofs.array_requests_GoneOn.{gone-none, gone-same}
 use Rattle.run_blocks.proofs.BlockAsks.{all-askable, lane-run, worker-run, block-entered}
@@ -73,3 +75,17 @@ returns-in-Err-clause-later g c = λ t.
 
 pub returns-then-len-clause-entered : goal.returns-then-len-clause-entered
 returns-then-len-clause-entered g c = block-entered c.args.array c.in-Ok-run_block.joined.array c.in-Ok-run_block.ensures.entered c.in-Ok-run_block.ensures.others
+
+-- nothing was entered
+none-entered : (entries : List Entry) → IsBlockEntered entries entries
+none-entered entries = record { more = []; grown = sym (append-nil entries); calls = λ k d lt. absurd (omega (arith, lt)); callers = λ k d lt. absurd (omega (arith, lt)); going = λ k d lt. absurd (omega (arith, lt)) }
+
+pub returns-in-Err-clause-entered : goal.returns-in-Err-clause-entered
+returns-in-Err-clause-entered g c = subst (λ a. IsBlockEntered c.args.array.parts.entries a.parts.entries) (sym c.in-Err.ensures.back) (none-entered c.args.array.parts.entries)
+
+pub returns-clause-later : goal.returns-clause-later
+returns-clause-later g c = λ t.
+    let seen = c.in-Ok-run_block.ensures.later.before in
+    let old = c.args.array.parts.entries in
+    subst (λ (l : List Entry). RepliesFrom (length (g.B.Bank.tape c.args.array.parts.bank)) (drop (length old) l)) (sym seen.begins.entries.1)
+    (subst (RepliesFrom (length (g.B.Bank.tape c.args.array.parts.bank))) (sym (drop-append_seam old seen.begins.entries.0)) (seen.later t))
