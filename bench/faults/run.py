@@ -218,7 +218,7 @@ def texts(place):
     wrong = 0
     for text, number in ("together\na: read 0 1\n", 3), ("write 0 1 4294967296\n", 1):
         run = place.run(text, ["m0"], None, log=False)
-        good = run.status == 3 and run.said == f"mdgrow: bad line {number}\n" and not run.replies
+        good = run.status == 3 and run.said.startswith(f"mdgrow: bad line {number}\n") and not run.replies
         wrong += not good
         print(f"bad line {number}: {'as wanted' if good else 'WRONG'}")
     return wrong
