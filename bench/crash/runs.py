@@ -109,7 +109,7 @@ def replies_of(line):
 
 
 class Place:
-    """A folder of image files, on a file system in memory, in which the program is run."""
+    """A folder of image files, on a file system in memory, in which the program is run; with a library preloaded, if one is named."""
 
     def __init__(self, folder, program, library):
         self.folder, self.program, self.library = folder, program, library
@@ -135,7 +135,9 @@ class Place:
         with open(self.path("script"), "w") as file:
             file.write(text)
         words = [self.program, "run"] + (["--backup", backup] if backup else []) + ["script"] + slots
-        environment = dict(os.environ, LD_PRELOAD=self.library, **(settings or {}))
+        environment = dict(os.environ, **(settings or {}))
+        if self.library:
+            environment["LD_PRELOAD"] = self.library
         if log:
             environment["CALLS_LOG"] = "log"
         done = subprocess.run(words, cwd=self.folder, env=environment, stdout=subprocess.PIPE, stderr=subprocess.PIPE, timeout=seconds)

@@ -205,9 +205,9 @@ def damaged(place, options):
         good = run.replies[0] == wanted and told == ([missing] if missing is not None else [])
         if wanted.startswith("assembled"):
             own = ["seed 3 x8"] * 12 + ["zero x8"] * 36
-            # (with no window held nothing is known of the sectors whose places the copies took)
-            if name != "backup":
-                good = good and [reply.split(": ", 1)[1] for reply in reads] == own
+            # (with no window held nothing is known of the 48 sectors whose places the two copies took)
+            known = 6 if name == "backup" else 0
+            good = good and [reply.split(": ", 1)[1] for reply in reads][known:] == own[known:]
         wrong += not good
         print(f"{what}: {run.replies[0]}{''.join(f', role {role} missing' for role in told)}: {'as wanted' if good else 'WRONG'}")
     return wrong
@@ -218,7 +218,7 @@ def texts(place):
     wrong = 0
     for text, number in ("together\na: read 0 1\n", 3), ("write 0 1 4294967296\n", 1):
         run = place.run(text, ["m0"], None, log=False)
-        good = run.status == 3 and run.said == f"mdgrow: bad line {number}\n" and not run.replies
+        good = run.status == 3 and run.said.startswith(f"mdgrow: bad line {number}\n") and not run.replies
         wrong += not good
         print(f"bad line {number}: {'as wanted' if good else 'WRONG'}")
     return wrong
@@ -230,16 +230,18 @@ def main():
     parser.add_argument("--scripts", default="", help="some of the scripts, by name, with commas between")
     parser.add_argument("--every", type=int, default=1, help="let only each so many-th call fail")
     parser.add_argument("--pieces", action="store_true", help="short and interrupted calls alone")
+    parser.add_argument("--damaged", action="store_true", help="damaged bytes and bad lines alone, which want no gcc")
     parser.add_argument("--pretend", choices=["silent"], help="what fails isn't done, but answers as if it were")
     options = parser.parse_args()
-    work = tempfile.mkdtemp(prefix="faults.", dir="/dev/shm")
+    work = tempfile.mkdtemp(prefix="faults.", dir="/dev/shm" if os.path.isdir("/dev/shm") else None)
     wrong = 0
     try:
-        place = runs.Place(os.path.join(work, "files"), runs.program_of(options.program), runs.build_library(work))
+        library = None if options.damaged else runs.build_library(work)
+        place = runs.Place(os.path.join(work, "files"), runs.program_of(options.program), library)
         wrong += damaged(place, options)
         wrong += texts(place)
         for name, lines, members, backup in scripts():
-            if options.scripts and name not in options.scripts.split(","):
+            if options.damaged or options.scripts and name not in options.scripts.split(","):
                 continue
             tried = Tried(place, name, lines, members, backup, options)
             if options.pretend:
