@@ -1,0 +1,4 @@
+pub mod Options
+pub mod Answers
+pub mod Ends
+pub mod Talk
