@@ -84,6 +84,18 @@ pub fn bad_words(alloc: Global, words: &[String]) -> Ended {
     ended
 }
 
+/// The end at words of which one is no text.
+pub fn unreadable_words(alloc: Global) -> Ended {
+    let mut ended = Ended::with(BAD_WORDS);
+    if let Ok(lines) = Vec::from_slice(
+        alloc,
+        b"a word isn't UTF-8: a file is taken by a name that is\n",
+    ) {
+        ended.reason = Some(lines);
+    }
+    ended
+}
+
 /// Tells the path of a file that can't be opened, and why, so that nothing is run.
 pub fn cannot_open<R: Eprint>(rt: &R, path: &str, why: OpenFault) -> Ended {
     let _ = eprintln!(rt; "mdgrow: cannot open {path}\n{why}");

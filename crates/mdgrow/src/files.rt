@@ -4,14 +4,14 @@ ghost use Rattle.std.specs.Prelude.{◌≡◌, map, string_bytes, Some};
 ghost use Rattle.script_argv.specs.Words.{command_in, told_by};
 ghost use Rattle.script_argv.specs.Words.Asked.{Run as IsRun};
 
-use crate::ended::{Ended, cannot_open, cannot_take, tell_lines};
+use crate::ended::{CANNOT_READ, Ended, NO_MEMORY, cannot_open, cannot_take, tell_lines};
 use crate::looks::{MOST_SLOTS, look};
 use crate::steps;
 use bank::Bank;
 use bank_file::{FileBank, ImageFile};
-use run_command::{Hook, Pace, Report, run_over_devices};
+use run_command::{Hook, Pace, Report, TextFault, read_text, run_over_devices};
 use script_argv::Paths;
-use script_io::{Source, StdSink, StdSource};
+use script_io::{MemorySource, Source, StdSink, StdSource};
 use script_kept::KeptSource;
 use std::alloc::Global;
 use std::fs::{File, Files};
@@ -20,6 +20,7 @@ use std::sync::Wait;
 use std::thread::Threads;
 use tool_files::{FileId, OpenFault, assemble_script, first_line, take_images};
 use tool_losses::{push_losses, push_states};
+use tool_warnings::{look_at, newest_for, push_locks, push_warnings, superblocks};
 
 // Opens the script, which may be a FIFO, and tells which file it is.
 fn open_script<R: Files<File = File>>(rt: &R, path: &str) -> io::Result<(File, FileId)> {
@@ -45,15 +46,19 @@ fn tell_failed<R: Eprint>(rt: &R, paths: &Paths, bank: &FileBank<ImageFile>) -> 
 }
 
 // Tells which members were lost, and gives the UUID of the array that was opened last.
-fn tell_lost<R: Eprint + AllocGlobal>(
+fn tell_lost<R: Files<File = File> + Eprint + AllocGlobal>(
     rt: &R,
     paths: &Paths,
     report: &Report<FileBank<ImageFile>>,
 ) -> io::Result<Option<[u8; 16]>> {
-    let mut lines = Vec::new(rt.alloc());
+    let alloc = rt.alloc();
+    let slots = look_at(rt, alloc, &paths.slots)?;
+    let seen = superblocks(alloc, &slots)?;
+    let mut lines = Vec::new(alloc);
     let mut last = None;
     for epoch in &report.epochs {
-        push_losses(&mut lines, &epoch.entries)?;
+        let newest = newest_for(alloc, &seen, Some(epoch.uuid))?;
+        push_losses(&mut lines, &epoch.entries, &slots, newest.as_ref())?;
         last = Some(epoch.uuid);
     }
     tell_failed(rt, paths, &report.bank)?;
@@ -93,6 +98,21 @@ fn tell_left<R: Files<File = File> + Eprint + AllocGlobal + Threads + Wait + Syn
     }
 }
 
+// Warns of what a script is about to do to the files, which are looked at, and of files that can't be locked.
+fn warn<R: Files<File = File> + Eprint + AllocGlobal>(
+    rt: &R,
+    paths: &Paths,
+    text: &[u8],
+) -> io::Result<()> {
+    let alloc = rt.alloc();
+    let mut told = Vec::new(alloc);
+    let mut slots = look_at(rt, alloc, &paths.slots)?;
+    push_locks(&mut told, &slots)?;
+    let backup = if paths.has_backup { slots.pop() } else { None };
+    push_warnings(&mut told, alloc, text, &slots, backup.as_ref())?;
+    tell_lines(rt, told.as_slice())
+}
+
 // Runs a script over image files, by the call for any devices. None of the files may be one that is taken already.
 fn run_images<
     S: Source + Drop,
@@ -105,7 +125,16 @@ fn run_images<
         Ok(bank) => bank,
         Err(fault) => return cannot_take(rt, &paths.slots, fault),
     };
-    let mut script = KeptSource::new(alloc, source);
+    let mut source = source;
+    let text = match read_text(alloc, &mut source) {
+        Ok(text) => text,
+        Err(TextFault::Failed) => return Ended::with(CANNOT_READ),
+        Err(TextFault::NoMemory) => return Ended::with(NO_MEMORY),
+    };
+    if !is_quiet {
+        let _ = warn(rt, paths, &text);
+    }
+    let mut script = KeptSource::new(alloc, MemorySource::new(text, Vec::new(alloc)));
     let mut sink = StdSink::new(io::writer(rt));
     let pace = Pace::new(|turn, left| steps(turn, left));
     let hook = Hook::new(|_, _| true);
@@ -121,8 +150,8 @@ fn run_images<
     ended
 }
 
-/// Runs a script's file, or standard input where that is `-`, over image files, of which none is the script. Losses are told on standard
-/// error, unless that is to stay quiet.
+/// Runs a script's file, or standard input where that is `-`, over image files, of which none is the script. Warnings and losses are told on
+/// standard error, unless that is to stay quiet.
 pub fn run_files<
     R: Files<File = File> + Input + Print + Eprint + AllocGlobal + Threads + Wait + Sync,
 >(rt: &R, words: &[String], paths: &Paths, is_quiet: bool) -> Ended

@@ -10,7 +10,7 @@ mod files;
 mod looks;
 
 use bank::{Bank, MemoryBank};
-use ended::{BAD_WORDS, CANNOT_WRITE, Ended, NO_MEMORY, bad_words, say, tell};
+use ended::{BAD_WORDS, CANNOT_WRITE, Ended, NO_MEMORY, bad_words, say, tell, unreadable_words};
 use files::run_files;
 use looks::look_by;
 use run_command::{Hook, Pace, run};
@@ -189,7 +189,7 @@ fn main(rt: HostRuntime) -> ExitCode {
     let ended = match perform(&rt) {
         Ok(ended) => ended,
         Err(error) if error.kind() == io::ErrorKind::OutOfMemory => Ended::with(NO_MEMORY),
-        Err(_) => Ended::with(BAD_WORDS),
+        Err(_) => unreadable_words(rt.alloc()),
     };
     let _ = tell(&rt, &ended);
     ExitCode::from(ended.status)

@@ -1,12 +1,13 @@
 //! Which roles and spares were lost, in lines.
 
 ghost use Rattle.std.specs.Prelude.{◌≡◌, ◌++◌, OnOk};
-ghost use Rattle.history.specs.declared.events.Event.TheVariants.{Lost};
-ghost use Rattle.tool_losses.specs.Losses.{lost_by, loss_line, loss_lines};
+ghost use Rattle.std.specs.Option.{option_copied};
+ghost use Rattle.tool_losses.specs.Losses.{lost_by, role_lost, role_line, loss_line, loss_lines};
 
-use crate::lines::push_line;
+use crate::lines::{push_around, push_line};
 use history::{Entries, Event, LostCause};
 use std::alloc::AllocError;
+use tool_warnings::{Looked, Sb, push_holder};
 
 // How a role was lost, in words.
 fn lost_by(cause: LostCause) -> &'static str
@@ -21,18 +22,39 @@ fn lost_by(cause: LostCause) -> &'static str
 }
 
 // Appends how a role was lost.
-fn push_role(into: &mut Vec<u8>, role: u32, cause: LostCause) -> Result<(), AllocError>
-    ensures { OnOk result (into.new.items ≡ into.old.items ++ loss_line (Lost role cause)) }
+fn push_cause(into: &mut Vec<u8>, role: u32, cause: LostCause) -> Result<(), AllocError>
+    ensures { OnOk result (into.new.items ≡ into.old.items ++ role_lost role cause) }
 {
-    push_line(into, "mdgrow: role ", u64::from(role), lost_by(cause))
+    push_around(into, "mdgrow: role ", u64::from(role), lost_by(cause))
+}
+
+// Appends how a role was lost, and which of these slots had it.
+fn push_role(
+    into: &mut Vec<u8>,
+    role: u32,
+    cause: LostCause,
+    slots: &[Looked],
+    newest: Option<&Sb>,
+) -> Result<(), AllocError>
+    ensures { OnOk result (into.new.items ≡ into.old.items ++ role_line slots.now (option_copied newest.entry) role cause) }
+{
+    push_cause(into, role, cause)?;
+    push_holder(into, slots, newest, role)?;
+    into.push(b'\n')?;
+    Ok(())
 }
 
 // Appends what is told of an event.
-fn push_loss(into: &mut Vec<u8>, event: &Event) -> Result<(), AllocError>
-    ensures { OnOk result (into.new.items ≡ into.old.items ++ loss_line event.now) }
+fn push_loss(
+    into: &mut Vec<u8>,
+    event: &Event,
+    slots: &[Looked],
+    newest: Option<&Sb>,
+) -> Result<(), AllocError>
+    ensures { OnOk result (into.new.items ≡ into.old.items ++ loss_line slots.now (option_copied newest.entry) event.now) }
 {
     match event {
-        Event::Lost { role, cause } => push_role(into, *role, *cause),
+        Event::Lost { role, cause } => push_role(into, *role, *cause, slots, newest),
         Event::SpareLost { slot } => {
             push_line(
                 into,
@@ -45,12 +67,18 @@ fn push_loss(into: &mut Vec<u8>, event: &Event) -> Result<(), AllocError>
     }
 }
 
-/// Appends a line for each role and each spare that a history tells lost, in its order: by a fault or by command, or since it was opened.
-pub fn push_losses(into: &mut Vec<u8>, entries: &Entries) -> Result<(), AllocError>
-    ensures { OnOk result (into.new.items ≡ into.old.items ++ loss_lines entries.now.items) }
+/// Appends a line for each role and each spare that a history tells lost, in its order: by a fault or by command, or since it was opened. A
+/// role's line says which of these slots had it, as far as they and the newest superblock of the array tell.
+pub fn push_losses(
+    into: &mut Vec<u8>,
+    entries: &Entries,
+    slots: &[Looked],
+    newest: Option<&Sb>,
+) -> Result<(), AllocError>
+    ensures { OnOk result (into.new.items ≡ into.old.items ++ loss_lines slots.now (option_copied newest.entry) entries.now.items) }
 {
     for at in 0..entries.len() {
-        push_loss(into, &entries.get(at).event)?;
+        push_loss(into, &entries.get(at).event, slots, newest)?;
     }
     Ok(())
 }

@@ -1,0 +1,4 @@
+pub mod UuidLaws
+pub mod Joined
+pub mod FrontLaws
+pub mod NeededLaws

@@ -1,0 +1,11 @@
+pub mod Fronts
+pub mod Systems
+pub mod Looks
+pub mod Locks
+pub mod Held
+pub mod Founds
+pub mod Asked
+pub mod Overwriting
+pub mod Needed
+pub mod Backups
+pub mod Warnings
